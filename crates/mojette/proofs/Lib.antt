@@ -1,0 +1,3 @@
+pub mod Equal
+pub mod Euclid
+pub mod Products

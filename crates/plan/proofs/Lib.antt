@@ -1,0 +1,4 @@
+pub mod Adding
+pub mod Cells
+pub mod Layouts
+pub mod Verdicts

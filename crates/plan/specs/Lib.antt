@@ -1,0 +1,5 @@
+pub mod Laid
+pub mod Shapes
+pub mod Layouts
+pub mod Projecting
+pub mod Sums

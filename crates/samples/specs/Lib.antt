@@ -1,0 +1,7 @@
+pub mod Codes
+pub mod Codings
+pub mod Group
+pub mod Pairs
+pub mod Reading
+pub mod Sums
+pub mod Words
