@@ -1,11 +1,9 @@
--- A refusal by its number, with the three values that it tells: 0 where it tells nothing.
+-- Refusals by their numbers.
 use Prim.Native.Nat.{ℕ}
+use Rattle.mojette.specs.declared.fault.Refusal.{Refusal as Told}
 
-pub record Refusal : Type 0 where
-  pub number : ℕ
-  pub first : ℕ
-  pub second : ℕ
-  pub third : ℕ
+abbrev pub Refusal : Type 0
+Refusal = Told
 
 abbrev pub refusal : ℕ → ℕ → ℕ → ℕ → Refusal
 refusal n a b c = record { number = n; first = a; second = b; third = c }

@@ -74,3 +74,12 @@ pub enum Fault {
     ShortOutput(usize),
     Oversize,
 }
+
+// A refusal by its number, with the three values that it tells: 0 where it tells nothing.
+#[derive(Clone, Copy)]
+pub struct Refusal {
+    pub number: usize,
+    pub first: usize,
+    pub second: usize,
+    pub third: usize,
+}

@@ -2,12 +2,14 @@
 pub mod direction;
 pub mod fault;
 pub mod order;
+pub mod refusal;
 
 pub use direction::Direction;
 pub use direction::Record;
 pub use fault::Fault;
 pub use fault::FileFault;
 pub use fault::Reason;
+pub use fault::Refusal;
 pub use fault::Table;
 pub use fault::TextFault;
 pub use order::MOST_PLACES;

@@ -1,0 +1,13 @@
+pub mod Places
+pub mod Opening
+pub mod Agreement
+pub mod Sizes
+pub mod Alone
+pub mod Vanishing
+pub mod Loading
+pub mod Refusing
+pub mod Sealing
+pub mod Lives
+pub mod Outcome
+pub mod Worked
+pub mod Bridges

@@ -1,0 +1,15 @@
+pub mod Bools
+pub mod Counts
+pub mod Sums
+pub mod Rings
+pub mod Loops
+pub mod Worlds
+pub mod Histories
+pub mod Grants
+pub mod Values
+pub mod Invariant
+pub mod Sealing
+pub mod Taking
+pub mod Settling
+pub mod Outcome
+pub mod Bridges
