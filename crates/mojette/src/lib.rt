@@ -2,6 +2,7 @@
 pub mod direction;
 pub mod fault;
 pub mod order;
+pub mod passing;
 pub mod refusal;
 
 pub use direction::Direction;

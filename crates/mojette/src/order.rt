@@ -54,3 +54,55 @@ impl Direction {
         i64::from(other.p) * i64::from(self.q) < i64::from(self.p) * i64::from(other.q)
     }
 }
+
+#[cfg(test)]
+mod tests {
+    use super::*;
+    use std::test::*;
+
+    // p, q, and whether the direction is lawful
+    const CASES: [(i32, i32, bool); 18] = [
+        (1, 0, true),
+        (0, 1, true),
+        (-1, 0, false),
+        (2, 0, false),
+        (0, 0, false),
+        (0, 2, false),
+        (7, 1, true),
+        (8, 1, false),
+        (-7, 1, true),
+        (-8, 1, false),
+        (1, 7, true),
+        (1, 8, false),
+        (1, -1, false),
+        (2, 4, false),
+        (-6, 3, false),
+        (3, 2, true),
+        (i32::MIN, 1, false),
+        (1, i32::MAX, false),
+    ];
+
+    #[test]
+    fn lawful_at_the_bounds() -> Result<(), Fail> {
+        for (p, q, wanted) in CASES {
+            check_eq(Direction { p, q }.is_lawful(), wanted)?;
+        }
+        Ok(())
+    }
+
+    #[test]
+    fn order_turns_from_level_to_left() -> Result<(), Fail> {
+        let level = Direction { p: 1, q: 0 };
+        let upright = Direction { p: 0, q: 1 };
+        let left = Direction { p: -1, q: 1 };
+        check(level.is_before(upright) && upright.is_before(left))?;
+        check(!left.is_before(upright) && !upright.is_before(upright))
+    }
+
+    #[test]
+    fn divisors() -> Result<(), Fail> {
+        check_eq(gcd(0, 0), 0)?;
+        check_eq(gcd(12, 18), 6)?;
+        check_eq(gcd(7, 0), 7)
+    }
+}

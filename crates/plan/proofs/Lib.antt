@@ -1,4 +1,10 @@
 pub mod Adding
 pub mod Cells
+pub mod Enough
+pub mod Lawful
 pub mod Layouts
+pub mod Making
+pub mod Reaching
+pub mod Shows
+pub mod Taking
 pub mod Verdicts

@@ -91,3 +91,53 @@ impl Plan {
         Ok(lay_out(columns, rows, records))
     }
 }
+
+#[cfg(test)]
+mod tests {
+    use super::*;
+    use std::test::*;
+
+    fn whole(p: i32, q: i32) -> Record {
+        Record {
+            direction: Direction { p, q },
+            cause: 0,
+        }
+    }
+
+    // The refusal's number and first value; 0 and T where there is a plan.
+    fn answer(columns: usize, rows: usize, records: &[Record]) -> (usize, usize) {
+        match Plan::of(columns, rows, records) {
+            Ok(plan) => (0, plan.total()),
+            Err(fault) => {
+                let told = fault.refusal();
+                (told.number, told.first)
+            }
+        }
+    }
+
+    #[test]
+    fn plans_at_the_bounds() -> Result<(), Fail> {
+        let good = [whole(1, 0), whole(1, 1), whole(0, 1)];
+        check_eq(answer(64, 64, &good), (0, 64 + 127 + 64))?;
+        check_eq(answer(65, 64, &good), (1, 0))?;
+        check_eq(answer(0, 0, &[]), (1, 0))?;
+        check_eq(answer(1, 1, &[]), (2, 0))?;
+        check_eq(answer(1, 1, &[whole(0, 1); 17]), (2, 0))?;
+        check_eq(answer(1, 1, &[whole(0, 1); 16]), (4, 1))?;
+        check_eq(
+            answer(1, 1, &[whole(1, 0), whole(2, 2), whole(1, 0)]),
+            (3, 1),
+        )?;
+        check_eq(
+            answer(1, 1, &[whole(1, 1), whole(1, 0), whole(9, 9)]),
+            (4, 1),
+        )
+    }
+
+    #[test]
+    fn a_fresh_plan() -> Result<(), Fail> {
+        let plan = Plan::fresh();
+        check_eq((plan.columns(), plan.rows()), (1, 1))?;
+        check_eq((plan.count(), plan.total()), (1, 1))
+    }
+}

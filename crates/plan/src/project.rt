@@ -104,3 +104,62 @@ pub fn project<K: Kind>(
     write_sums(columns, rows, direction, picture, sums);
     Ok(bins)
 }
+
+#[cfg(test)]
+mod tests {
+    use super::*;
+    use samples::SumWord;
+    use samples::impls::SumKind;
+    use std::test::*;
+
+    // The refusal's number and first value; 0 and the bins where the call is served.
+    fn answer(
+        columns: usize,
+        rows: usize,
+        p: i32,
+        q: i32,
+        cells: usize,
+        bins: usize,
+    ) -> (usize, usize) {
+        let picture = [SumWord { value: 1 }; 128];
+        let mut sums = [SumWord { value: 9 }; 512];
+        let picture = &picture[0..cells.min(128)];
+        let sums = &mut sums[0..bins.min(512)];
+        match project(columns, rows, Direction { p, q }, picture, sums) {
+            Ok(n) => (0, n),
+            Err(fault) => {
+                let told = fault.refusal();
+                (told.number, told.first)
+            }
+        }
+    }
+
+    #[test]
+    fn refusals_at_the_bounds() -> Result<(), Fail> {
+        check_eq(answer(0, 1, 0, 1, 128, 512), (1, 0))?;
+        check_eq(answer(1, 0, 0, 1, 128, 512), (1, 0))?;
+        check_eq(answer(65, 1, 9, 9, 128, 512), (1, 0))?;
+        check_eq(answer(1, 65, 0, 1, 128, 512), (1, 0))?;
+        check_eq(answer(1, 64, 0, 1, 64, 1), (0, 1))?;
+        check_eq(answer(64, 2, 1, 7, 128, 443), (0, 443))?;
+        check_eq(answer(64, 2, 1, 7, 128, 442), (5, 3))?;
+        check_eq(answer(64, 2, 1, 7, 127, 442), (5, 1))?;
+        check_eq(answer(64, 2, 1, 8, 0, 0), (3, 0))?;
+        check_eq(answer(1, 1, -7, 1, 1, 1), (0, 1))
+    }
+
+    #[test]
+    fn the_tail_stays() -> Result<(), Fail> {
+        let cells = [
+            SumWord { value: 1 },
+            SumWord { value: 2 },
+            SumWord { value: 3 },
+            SumWord { value: 4 },
+            SumWord { value: 99 },
+        ];
+        let mut sums = [SumWord { value: 9 }; 4];
+        check(project(2, 2, Direction { p: -1, q: 1 }, &cells, &mut sums).is_ok())?;
+        check_eq((sums[0].value, sums[1].value), (4, 5))?;
+        check_eq((sums[2].value, sums[3].value), (1, 9))
+    }
+}

@@ -163,3 +163,58 @@ pub fn read_code<K: Coded>(word: &[u8]) -> Option<K>
     }
     Some(K::from_number(n))
 }
+
+#[cfg(test)]
+mod tests {
+    use super::*;
+    use crate::kind::Kind;
+    use std::test::*;
+
+    #[test]
+    fn words_wrap_and_cancel() -> Result<(), Fail> {
+        let a = SumWord { value: 65_535 };
+        check_eq(a.add(SumWord { value: 2 }).value, 1)?;
+        check_eq(SumWord { value: 1 }.negate().value, 65_535)?;
+        check_eq(SumKind::zero_sample().negate().value, 0)?;
+        let x = XorWord { value: 0xFFFF_0000 };
+        check_eq(x.add(x).value, 0)?;
+        check(!x.same(XorKind::spark_sample()))
+    }
+
+    #[test]
+    fn codes_of_all_kinds() -> Result<(), Fail> {
+        let mut out = [b'.'; 13];
+        check_eq(write_code(SumWord { value: 0xA0F }, &mut out), Some(4))?;
+        check(out == *b"0A0F.........")?;
+        check_eq(
+            write_code(XorWord { value: 0xFFFF_FFFF }, &mut out),
+            Some(8),
+        )?;
+        check(out == *b"FFFFFFFF.....")?;
+        let pair = Pair {
+            first: SumWord { value: 1 },
+            second: XorWord { value: 0xBC },
+        };
+        check_eq(write_code(pair, &mut out), Some(12))?;
+        check(out == *b"0001000000BC.")?;
+        check_eq(write_code(pair, &mut out[0..11]), None)
+    }
+
+    fn number_read(word: &[u8]) -> Option<u16> {
+        match read_code::<SumWord>(word) {
+            Some(x) => Some(x.value),
+            None => None,
+        }
+    }
+
+    #[test]
+    fn only_codes_are_read() -> Result<(), Fail> {
+        check_eq(number_read(b"09AF"), Some(0x9AF))?;
+        check_eq(number_read(b"FFFF"), Some(0xFFFF))?;
+        check_eq(number_read(b"09Af"), None)?;
+        check_eq(number_read(b"9AF"), None)?;
+        check_eq(number_read(b"009AF"), None)?;
+        check_eq(number_read(b"G000"), None)?;
+        check_eq(number_read(b""), None)
+    }
+}

@@ -1,11 +1,12 @@
 // Runs the cases of the outside reference, one a line, and prints each answer.
 mod cases;
+mod lists;
+mod shows;
 mod words;
 
 use std::error::AnyError;
 use std::io::BufRead;
 use std::io::BufReader;
-use words::Words;
 
 fn run(rt: &LibcRuntime) -> Result<(), AnyError> {
     for line in BufReader::new(rt.stdin()).lines(rt.alloc()) {

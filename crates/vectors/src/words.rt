@@ -37,6 +37,27 @@ impl<'a> Words<'a> {
         n
     }
 
+    // The next word, to the next space.
+    pub fn word(&mut self) -> &'a [u8] {
+        if self.peek() == b' ' {
+            self.step();
+        }
+        let from = self.at.min(self.text.len());
+        let mut to = from;
+        for i in from..self.text.len() {
+            if self.text[i] == b' ' {
+                break;
+            }
+            to = i + 1;
+        }
+        self.at = to;
+        if from <= to && to <= self.text.len() {
+            &self.text[from..to]
+        } else {
+            &self.text[0..0]
+        }
+    }
+
     // The next number, without its sign; 0 at the end of the line.
     pub fn natural(&mut self) -> u64 {
         if self.peek() == b' ' {

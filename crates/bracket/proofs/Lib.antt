@@ -1,0 +1,12 @@
+pub mod OfLexer
+pub mod OfSteps
+pub mod OfNumerals
+pub mod OfDirections
+pub mod OfFound
+pub mod OfSkips
+pub mod OfLines
+pub mod OfPlaces
+pub mod OfLineEnds
+pub mod OfFile
+pub mod OfLayout
+pub mod OfQuestions

@@ -1,0 +1,7 @@
+pub mod Capped
+pub mod Found
+pub mod Lexing
+pub mod Lines
+pub mod Means
+pub mod Files
+pub mod Questions

@@ -1,0 +1,3 @@
+// Whole runs of calls on a tile.
+pub mod rebuild;
+mod steps;

@@ -1,0 +1,10 @@
+pub mod Checks
+pub mod Filling
+pub mod Finding
+pub mod Leftovers
+pub mod Living
+pub mod Rings
+pub mod Sealing
+pub mod Settling
+pub mod Showing
+pub mod Turns

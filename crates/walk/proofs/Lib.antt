@@ -1,0 +1,9 @@
+pub mod Tallies
+pub mod Walks
+pub mod Cells
+pub mod Laying
+pub mod Finding
+pub mod Writing
+pub mod Counting
+pub mod Places
+pub mod Lying

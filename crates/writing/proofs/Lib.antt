@@ -1,0 +1,5 @@
+pub mod OfSplices
+pub mod OfFilling
+pub mod OfTexts
+pub mod OfLost
+pub mod OfTile

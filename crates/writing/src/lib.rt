@@ -1,0 +1,4 @@
+// Writing text.
+pub mod listing;
+mod put;
+mod tile;
