@@ -695,13 +695,7 @@ def strip_cases():
 # ---------------------------------------------------------------------------
 # format
 
-EXAMPLE = (
-    b"(tile sum 2 2)\n"
-    b"(dir 1 1 (bins 0002 0005 0003))\n"
-    b"(dir 0 1 (lost 4))\n"
-    b"(dir -1 1 (bins 0004 0005 0001))\n"
-    b"(end)\n"
-)
+EXAMPLE = m.EXAMPLE
 
 STRANGE_NUMERALS = [
     b"0", b"1", b"-1", b"7", b"8", b"-7", b"-8", b"64", b"65", b"-64", b"255", b"256", b"257",

@@ -58,6 +58,16 @@ class Refusal(Exception):
         self.told = (number, a, b, c)
 
 
+# A file of the tile 1 2 / 3 4 with its second place lost.
+EXAMPLE = (
+    b"(tile sum 2 2)\n"
+    b"(dir 1 1 (bins 0002 0005 0003))\n"
+    b"(dir 0 1 (lost 4))\n"
+    b"(dir -1 1 (bins 0004 0005 0001))\n"
+    b"(end)\n"
+)
+
+
 # ---------------------------------------------------------------------------
 # Kinds of sample
 

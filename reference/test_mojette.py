@@ -14,13 +14,7 @@ import mojette as m  # noqa: E402
 
 DIRECTIONS = m.all_lawful_directions()
 
-EXAMPLE = (
-    b"(tile sum 2 2)\n"
-    b"(dir 1 1 (bins 0002 0005 0003))\n"
-    b"(dir 0 1 (lost 4))\n"
-    b"(dir -1 1 (bins 0004 0005 0001))\n"
-    b"(end)\n"
-)
+EXAMPLE = m.EXAMPLE
 
 
 def whole(*directions):
