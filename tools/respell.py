@@ -3,7 +3,7 @@
 
 usage: python3 tools/respell.py [--check] [FOLDER]     FOLDER is the top of the repository (default: this folder)
 
-It was run once, right after the toolchain's own scripts. A name turns if one of the repository's files of specs/ or proofs/
+It was run right after the toolchain's own scripts; a second run turns nothing more. A name turns if one of the repository's files of specs/ or proofs/
 declares it, or an import gives it, with a dash in it; names that Rattle makes (in Answers and Invariants files) and names of
 the library stay. A lemma on the length or an entry of something keeps the dash between its two names. --check lists the table
 and the names that fall together, and writes nothing.
@@ -15,11 +15,11 @@ import re
 import sys
 
 WORD = r"""[^\s(){}.;,@"'«»`]+'*"""
-DECLARED = re.compile(r"^(\s*)((?:abbrev |unfoldable |pub )*)(record |data )?(" + WORD + r")((?:\s+[({][^:]*:[^)}]*[)}])*)\s*:\s")
+DECLARED = re.compile(r"^(\s*)((?:abbrev |unfoldable |pub )*)(record |data )?(" + WORD + r")((?:\s+[({][^:]*:[^)}]*[)}])*)\s*:(?:\s|$)")
 ALIAS = re.compile(r"(?<=[{ ,])(" + WORD + r") as (" + WORD + r")")
 IMPORT = re.compile(r"use ([\w.·]+)\.\{([^}]*)\}")
 # Names whose first part is a word of the library and whose second is one of ours.
-JOINED = {"length": "length", "getD": "get_or"}
+JOINED = {"length": "length", "getD": "get_or", "get_or": "get_or"}
 OWN_WORDS = {
     "all-hex-hex-text": "all_hex-hex_text",
     "hex-number-hex-text": "hex_number-hex_text",
@@ -52,6 +52,8 @@ def made_by_rattle(path):
 
 
 def respelled(name):
+    if name in OWN_WORDS.values():
+        return name
     if name in OWN_WORDS:
         return OWN_WORDS[name]
     parts = name.split("-")

@@ -26,9 +26,9 @@ module _ {S : Type 0} (K : Operations S) (C : Codes S) (l : Lexer) (name : List 
   named : head_reader C.name (length l.text.now) (left l) ≡ head_reader name (length l.text.now) (left l)
   named = ap (λ w. head_reader w (length l.text.now) (left l)) (sym is)
 
-  pub stops-at-head :
+  pub stops_at_head :
       (value : ℕ × ℕ × ℕ → Meaning S) (m : Lexer) (e : TextFault) → Reads (head_reader name) l (Err e) m → FileRead value (Err e) m
-  stops-at-head value m e r = record {
+  stops_at_head value m e r = record {
     gives = ap (λ x. then x (after_head (length l.text.now))) (named ∙ r.gives);
     same = r.same;
   }
@@ -43,10 +43,10 @@ module _ {S : Type 0} (K : Operations S) (C : Codes S) (l : Lexer) (name : List 
         ap (λ x. then x (after_head (length l.text.now))) (named ∙ head.gives)
         ∙ ap (λ t. after_head (length t) (P, Q) (left k)) (sym head.same)
 
-    pub stops-at-lines :
+    pub stops_at_lines :
         (value : ℕ × ℕ × ℕ → Meaning S) (lines : ℕ → List (Place S)) (m : Lexer) (e : TextFault) → LinesRead lines (Err e) m
         → FileRead value (Err e) m
-    stops-at-lines value lines m e r = record {
+    stops_at_lines value lines m e r = record {
       gives = opened ∙ ap (λ x. then x (λ xs. done (record { P = P; Q = Q; places = xs }))) r.gives;
       same = r.same ∙ head.same;
     }
@@ -61,21 +61,21 @@ module _ {S : Type 0} (K : Operations S) (C : Codes S) (l : Lexer) (name : List 
       same = r.same ∙ head.same;
     }
 
-told-parsed :
+told_parsed :
     {A S : Type 0} (value : A → Meaning S) (t : List ℕ) (r : Result A TextFault) (bs : List ℕ)
     → file_read value (lined t r) ≡ told t (parsed_as value r bs)
-told-parsed value t (Ok a) bs = refl
-told-parsed value t (Err f) bs = refl
+told_parsed value t (Ok a) bs = refl
+told_parsed value t (Err f) bs = refl
 
 -- A whole file that was read from the start of a text.
-pub file-told :
+pub file_told :
     {S : Type 0} (K : Operations S) (C : Codes S) (l m : Lexer) (t : List ℕ) (lines : List Line) (r : Result (ℕ × ℕ × ℕ) TextFault) (s : Result (ℕ × ℕ × ℕ) FileFault)
     → s ≡ lined t r → l.text.now ≡ t → l.at ≡ 0
     → ReadsAs (λ v. meaning_from K C l.text.now v.0 v.1 (take v.2 lines)) (λ n. file_reader C n) l r m
     → file_read (λ v. meaning_from K C t v.0 v.1 (take v.2 lines)) s ≡ read_file C t
-file-told K C l m t lines r s is e z h =
+file_told K C l m t lines r s is e z h =
     (λ i. file_read (λ v. meaning_from K C (sym e i) v.0 v.1 (take v.2 lines)) (is i))
-    ∙ told-parsed _ t r (left m)
+    ∙ told_parsed _ t r (left m)
     ∙ ap (told t) (sym h.gives)
     ∙ (λ i. told t (file_reader C (length (e i)) (drop (z i) (e i))))
 

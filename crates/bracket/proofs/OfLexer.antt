@@ -42,10 +42,10 @@ token_mark : (bs : List ℕ) → 0 < length bs → mark (get_or bs 0 0) ≡ true
 token_mark [] l m = absurd (omega arith)
 token_mark (b ∷ bs) l m = cond-true (mark b) _ _ m
 
-pub next-mark :
+pub next_mark :
     (byte at : ℕ) (text bs : List ℕ) (t : Token) → bs ≡ drop at text → 0 < length bs → mark (get_or bs 0 0) ≡ true
     → IsMark t (get_or bs 0 0) → IsToken byte (drop at text) t × (drop (at + 1) text ≡ after (drop at text))
-next-mark byte at text bs t e l m i =
+next_mark byte at text bs t e l m i =
     let s = token_mark bs l m in (
       subst (λ x. IsToken byte x t) e (go t i s),
       sym (drop-drop 1 at text) ∙ (λ j. drop (length (sym s j)) (sym e j)) ∙ ap after e,

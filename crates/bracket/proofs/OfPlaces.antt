@@ -30,10 +30,10 @@ reads_in :
     → f (length t) (left l) ≡ parsed r (left m)
 reads_in f l m r t e h = ap (λ u. f (length u) (left l)) (sym e) ∙ h.gives
 
-reads-as-in :
+reads_as_in :
     {A B : Type 0} (value : A → B) (f : ℕ → Reader B) (l m : Lexer) (r : Result A TextFault) (t : List ℕ) → l.text.now ≡ t
     → ReadsAs value f l r m → f (length t) (left l) ≡ parsed_as value r (left m)
-reads-as-in value f l m r t e h = ap (λ u. f (length u) (left l)) (sym e) ∙ h.gives
+reads_as_in value f l m r t e h = ap (λ u. f (length u) (left l)) (sym e) ∙ h.gives
 
 -- places that were read, before those that are still to be read
 abbrev before : {A : Type 0} → List A → Parsed (List A) → Parsed (List A)
@@ -96,17 +96,17 @@ module _ {S : Type 0} (K : Operations S) (C : Codes S) (P Q : ℕ) where
           (λ h. le-ltb count most_places h ∙ sym (le-ltb 0 (most_places - count) (omega arith)))
           (cases_lt count most_places)
 
-      at-start :
+      at_start :
           places_reader C (length t) P Q None most_places (left start)
           ≡ before (held count lines) (then (start_reader (length t) last open' (left l)) (line_rest (length t) last (most_places - count)))
-      at-start = so_far.gives ∙ ap (before (held count lines)) (started (length t) last (most_places - count) open' (left l) has_room)
+      at_start = so_far.gives ∙ ap (before (held count lines)) (started (length t) last (most_places - count) open' (left l) has_room)
 
-      pub stops-at-start :
+      pub stops_at_start :
           (value : ℕ → List (Place S)) (m : Lexer) (e : TextFault) → Reads (λ n. start_reader n last open') l (Err e) m
           → LinesRead value (Err e) m
-      stops-at-start value m e r = record {
+      stops_at_start value m e r = record {
         gives =
-            at-start
+            at_start
             ∙ ap (λ x. before (held count lines) (then x (line_rest (length t) last (most_places - count)))) (reads_in (λ n. start_reader n last open') l m (Err e) t so_far.same r);
         same = r.same ∙ so_far.same;
       }
@@ -116,7 +116,7 @@ module _ {S : Type 0} (K : Operations S) (C : Codes S) (P Q : ℕ) where
             places_reader C (length t) P Q None most_places (left start)
             ≡ before (held count lines) (line_rest (length t) last (most_places - count) more (left k))
         at_rest =
-            at-start
+            at_start
             ∙ ap (λ x. before (held count lines) (then x (line_rest (length t) last (most_places - count)))) (reads_in (λ n. start_reader n last open') l k (Ok more) t so_far.same begun)
 
         -- the last line
@@ -127,11 +127,11 @@ module _ {S : Type 0} (K : Operations S) (C : Codes S) (P Q : ℕ) where
               ∙ ap (λ b. before (held count lines) (line_rest (length t) last (most_places - count) b (left k))) over
               ∙ ap (before (held count lines)) (rest_end (length t) last (most_places - count) (left k))
 
-          pub stops-at-end :
+          pub stops_at_end :
               (value : ℕ → List (Place S)) (m : Lexer) (e : TextFault) → EndRead k (Err e) m
               → LinesRead value (Err e) m
-          stops-at-end value m e r = record {
-            gives = at_end ∙ ap (before (held count lines)) (reads-as-in _ (λ n. end_reader n) k m (Err e) t (begun.same ∙ so_far.same) r);
+          stops_at_end value m e r = record {
+            gives = at_end ∙ ap (before (held count lines)) (reads_as_in _ (λ n. end_reader n) k m (Err e) t (begun.same ∙ so_far.same) r);
             same = r.same ∙ begun.same ∙ so_far.same;
           }
 
@@ -140,7 +140,7 @@ module _ {S : Type 0} (K : Operations S) (C : Codes S) (P Q : ℕ) where
           ends m r = record {
             gives =
                 at_end
-                ∙ ap (before (held count lines)) (reads-as-in _ (λ n. end_reader n) k m (Ok tt) t (begun.same ∙ so_far.same) r)
+                ∙ ap (before (held count lines)) (reads_as_in _ (λ n. end_reader n) k m (Ok tt) t (begun.same ∙ so_far.same) r)
                 ∙ ap (λ ys. done ys (left m)) (append-nil (held count lines));
             same = r.same ∙ begun.same ∙ so_far.same;
           }
@@ -150,10 +150,10 @@ module _ {S : Type 0} (K : Operations S) (C : Codes S) (P Q : ℕ) where
           abbrev after_line : Place S → Reader (List (Place S))
           after_line x s = then (places_reader C (length t) P Q (Some x.entry.direction) (most_places - (count + 1)) s) (λ xs. done (x ∷ xs))
 
-          at-line :
+          at_line :
               places_reader C (length t) P Q None most_places (left start)
               ≡ before (held count lines) (then (dir_reader C (length t) P Q last (left k)) after_line)
-          at-line =
+          at_line =
               let e : most_places - count ≡ suc (most_places - (count + 1)) = omega arith in
               at_rest ∙ (λ i. before (held count lines) (line_rest (length t) last (e i) (goes_on i) (left k)))
 
@@ -163,14 +163,14 @@ module _ {S : Type 0} (K : Operations S) (C : Codes S) (P Q : ℕ) where
 
           pub stops_at_line : (value : ℕ → List (Place S)) (m : Lexer) (e : TextFault) → LineRead (Err e) m → LinesRead value (Err e) m
           stops_at_line value m e r = record {
-            gives = at-line ∙ ap (λ x. before (held count lines) (then x after_line)) (reads-as-in _ (λ n. dir_reader C n P Q last) k m (Err e) t (begun.same ∙ so_far.same) r);
+            gives = at_line ∙ ap (λ x. before (held count lines) (then x after_line)) (reads_as_in _ (λ n. dir_reader C n P Q last) k m (Err e) t (begun.same ∙ so_far.same) r);
             same = r.same ∙ begun.same ∙ so_far.same;
           }
 
-          pub reads-one :
+          pub reads_one :
               (m : Lexer) (line : Line) → length lines ≡ most_places → LineRead (Ok line) m
               → ReadOn m (count + 1) (set lines count line) (Some line.entry.direction)
-          reads-one m line long r =
+          reads_one m line long r =
               let text-is = begun.same ∙ so_far.same in
               let x = place_from K C t P Q line in
               let rest = places_reader C (length t) P Q (Some line.entry.direction) (most_places - (count + 1)) (left m) in
@@ -178,8 +178,8 @@ module _ {S : Type 0} (K : Operations S) (C : Codes S) (P Q : ℕ) where
               sym (ap (map (place_from K C t P Q)) (take_more_set lines count line (omega arith)) ∙ map_push (place_from K C t P Q) (take count lines) line) in
               record {
                 gives =
-                    at-line
-                    ∙ ap (λ y. before (held count lines) (then y after_line)) (reads-as-in _ (λ n. dir_reader C n P Q last) k m (Ok line) t text-is r)
+                    at_line
+                    ∙ ap (λ y. before (held count lines) (then y after_line)) (reads_as_in _ (λ n. dir_reader C n P Q last) k m (Ok line) t text-is r)
                     ∙ ap (λ u. before (held count lines) (after_line (place_from K C u P Q line) (left m))) text-is
                     ∙ one_more (held count lines) x rest
                     ∙ ap (λ ys. before ys rest) now-held;

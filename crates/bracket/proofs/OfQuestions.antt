@@ -73,10 +73,10 @@ module _ {S : Type 0} (K : Operations S) (C : Codes S) (t : List ℕ) (P Q : ℕ
     asked_far h = sym (cond-true (whole x.entry) _ _ here ∙ cond-false (ltb b (bins P Q x.entry.direction)) _ _ (le-ltb b _ h))
 
     -- what is found in the text from where the codes of the place begin
-    pub asked-found :
+    pub asked_found :
         (begin byte : ℕ) (rest : List ℕ) → b < bins P Q x.entry.direction → begin ≡ min x.offset (length t) → rest ≡ drop begin t
         → byte ≡ b * suc C.width + 1 → served (found_at K C rest byte) ≡ asked_in K P Q y b
-    asked-found begin byte rest h e r s =
+    asked_found begin byte rest h e r s =
         let w = C.width in
         let j : x.offset + (b * suc w + 1) ≡ x.offset + b * suc w + 1 = omega arith in
         let part : drop byte rest ≡ drop (x.offset + b * suc w + 1) t =

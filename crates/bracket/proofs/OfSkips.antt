@@ -8,7 +8,7 @@ use Rattle.format.specs.Readers.{Parsed, done, fault, then, Reader, expect, acce
 use Rattle.bracket.specs.declared.lexer.Lexer.{Lexer}
 use Rattle.bracket.specs.Found.{found_from}
 use Rattle.bracket.specs.Lexing.{left, Reads, ReadsAs}
-use Rattle.bracket.proofs.OfFound.{codes-found}
+use Rattle.bracket.proofs.OfFound.{codes_found}
 
 -- that something was read, and no more
 abbrev only : {A : Type 0} → Parsed A → Parsed (Unit {0})
@@ -58,10 +58,10 @@ module _ {S : Type 0} (K : Operations S) (C : Codes S) where
         let e : count - i ≡ suc (count - (i + 1)) = omega arith in
         sym passed.gives ∙ ap (λ k. only (codes_reader C (length l.text.now) k (left l))) e
 
-    pub stops-at-space :
+    pub stops_at_space :
         (m : Lexer) (e : TextFault) → Reads (λ n. expect n (text " ")) l (Err e) m
         → Skips count start (Err e) m
-    stops-at-space m e r = record {
+    stops_at_space m e r = record {
       gives = only_fault _ _ _ (opened ∙ ap (λ x. only (then x (after_space (length l.text.now) (count - (i + 1))))) r.gives);
       same = r.same ∙ passed.same;
     }
@@ -74,10 +74,10 @@ module _ {S : Type 0} (K : Operations S) (C : Codes S) where
           opened ∙ ap (λ x. only (then x (after_space (length l.text.now) (count - (i + 1))))) spaced.gives
           ∙ ap (λ t. only (then (accept (length t) (code_word C) (left k)) (after_code (length t) (count - (i + 1))))) (sym spaced.same)
 
-      pub stops-at-code :
+      pub stops_at_code :
           (m : Lexer) (e : TextFault) → Reads (λ n. accept n (code_word C)) k (Err e) m
           → Skips count start (Err e) m
-      stops-at-code m e r = record {
+      stops_at_code m e r = record {
         gives = only_fault _ _ _ (at_code ∙ ap (λ x. only (then x (after_code (length k.text.now) (count - (i + 1))))) r.gives);
         same = r.same ∙ spaced.same ∙ passed.same;
       }
@@ -91,13 +91,13 @@ module _ {S : Type 0} (K : Operations S) (C : Codes S) where
         same = r.same ∙ spaced.same ∙ passed.same;
       }
 
-  pub all-passed :
+  pub all_passed :
       (count i : ℕ) (start l : Lexer) → count ≤ i → Passed count i start l
       → Skips count start (Ok tt) l
-  all-passed count i start l h p =
+  all_passed count i start l h p =
       let e : count - i ≡ 0 = omega arith in
       let d = only_done (codes_reader C (length start.text.now) count (left start)) (left l) (sym p.gives ∙ ap (λ k. only (codes_reader C (length l.text.now) k (left l))) e) in
       record {
-        gives = d.1 ∙ ap (λ xs. done xs (left l)) (codes-found C K _ count start.at start.text.now d.0 (left l) d.1);
+        gives = d.1 ∙ ap (λ xs. done xs (left l)) (codes_found C K _ count start.at start.text.now d.0 (left l) d.1);
         same = p.same;
       }

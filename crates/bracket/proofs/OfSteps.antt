@@ -25,10 +25,10 @@ module _ {A : Type 0} (worth : List ℕ → Worth A) (l m : Lexer) where
   }
 
   -- with the fault that `wrong` makes
-  pub refuses-wrong :
+  pub refuses_wrong :
       (byte : ℕ) (e : TextFault) → e ≡ record { byte = byte; reason = reasons.Token } → worth (token (left l)) ≡ bad 0 → byte ≡ place l
       → m.text.now ≡ l.text.now → Reads (λ n. accept n worth) l (Err e) m
-  refuses-wrong byte e is w f s =
+  refuses_wrong byte e is w f s =
       subst (λ x. Reads (λ n. accept n worth) l (Err x) m) (sym is) (refuses (record { byte = byte; reason = reasons.Token }) w f s)
 
 -- No token but a word is worth anything ----------------------------------------------------------------------------
@@ -51,9 +51,9 @@ no_word worth byte bs End w i n = ap worth i ∙ w.end
 no_word worth byte bs (Word s at) w i n = absurd (n s at refl)
 
 -- a step that found another token than a word
-pub refuses-mark :
+pub refuses_mark :
     {A : Type 0} (worth : List ℕ → Worth A) (l m : Lexer) (byte : ℕ) (e : TextFault) (t : Token) → WordsOnly worth
     → e ≡ record { byte = byte; reason = reasons.Token } → IsToken (place l) (left l) t
     → ((s : Bor (List ℕ)) (at : ℕ) → t ≡ Word s at → ⊥) → byte ≡ place l → m.text.now ≡ l.text.now
     → Reads (λ n. accept n worth) l (Err e) m
-refuses-mark worth l m byte e t w is i n f s = refuses-wrong worth l m byte e is (no_word worth (place l) (left l) t w i n) f s
+refuses_mark worth l m byte e t w is i n f s = refuses_wrong worth l m byte e is (no_word worth (place l) (left l) t w i n) f s

@@ -32,7 +32,7 @@ impl<'a> Lexer<'a> {
     fn file<K: Coded>(&mut self, lines: &mut [Line]) -> Result<(usize, usize, usize), TextFault>
         requires name { IsWord K.Coded.name }
         requires room { length lines.old ≡ most_places }
-        ensures reads { ReadsAs (λ v. meaning_from K.Kind K.Coded self.old.text.now v.0 v.1 (take v.2 lines.new)) (λ n. file_reader K.Coded n) self.old result self.new }
+        ensures reads { ReadsAs (λ v. meaning_from K.Kind K.Coded.own self.old.text.now v.0 v.1 (take v.2 lines.new)) (λ n. file_reader K.Coded.own n) self.old result self.new }
         ensures few { IfOk result (λ v. v.2 ≤ most_places) }
     {
         let (columns, rows) = self.head(K::kind_name())?;
@@ -61,7 +61,7 @@ pub(crate) fn lines_of<K: Coded>(
 ) -> Result<(usize, usize, usize), FileFault>
     requires name { IsWord K.Coded.name }
     requires room { length lines.old ≡ most_places }
-    ensures reads { file_read (λ v. meaning_from K.Kind K.Coded text.now v.0 v.1 (take v.2 lines.new)) result ≡ read_file K.Coded text.now }
+    ensures reads { file_read (λ v. meaning_from K.Kind K.Coded.own text.now v.0 v.1 (take v.2 lines.new)) result ≡ read_file K.Coded.own text.now }
     ensures few { IfOk result (λ v. v.2 ≤ most_places) }
 {
     let mut lexer = Lexer::new(text);

@@ -21,7 +21,7 @@ const MOST_CAUSE: usize = 255;
 impl<'a> Lexer<'a> {
     // Passes `count` codes, each after a space.
     fn skip_codes<K: Coded>(&mut self, count: usize) -> Result<(), TextFault>
-        ensures { ReadsAs (λ _. found_from K.Kind K.Coded self.old.text.now self.old.at count) (λ n. codes_reader K.Coded n count) self.old result self.new }
+        ensures { ReadsAs (λ _. found_from K.Kind K.Coded.own self.old.text.now self.old.at count) (λ n. codes_reader K.Coded.own n count) self.old result self.new }
     {
         for _i in 0..count {
             self.space()?;
@@ -32,7 +32,7 @@ impl<'a> Lexer<'a> {
 
     // What follows `bins` or `lost`: the cause, and the byte at which the codes of so many bins begin.
     fn sums<K: Coded>(&mut self, bins: usize, whole: bool) -> Result<(u8, usize), TextFault>
-        ensures { ReadsAs (held_from K.Kind K.Coded self.old.text.now bins) (λ n. sums_reader K.Coded n bins whole) self.old result self.new }
+        ensures { ReadsAs (held_from K.Kind K.Coded.own self.old.text.now bins) (λ n. sums_reader K.Coded.own n bins whole) self.old result self.new }
     {
         if whole {
             let begin = self.at;
@@ -46,7 +46,7 @@ impl<'a> Lexer<'a> {
 
     // What a place holds, with the line end.
     fn held<K: Coded>(&mut self, bins: usize) -> Result<(u8, usize), TextFault>
-        ensures { ReadsAs (held_from K.Kind K.Coded self.old.text.now bins) (λ n. held_reader K.Coded n bins) self.old result self.new }
+        ensures { ReadsAs (held_from K.Kind K.Coded.own self.old.text.now bins) (λ n. held_reader K.Coded.own n bins) self.old result self.new }
     {
         self.space()?;
         self.open()?;
@@ -66,7 +66,7 @@ impl<'a> Lexer<'a> {
         last: Option<Direction>,
     ) -> Result<Line, TextFault>
         requires { (side_ok columns ≡ true) × (side_ok rows ≡ true) }
-        ensures { ReadsAs (place_from K.Kind K.Coded self.old.text.now columns rows) (λ n. dir_reader K.Coded n columns rows last) self.old result self.new }
+        ensures { ReadsAs (place_from K.Kind K.Coded.own self.old.text.now columns rows) (λ n. dir_reader K.Coded.own n columns rows last) self.old result self.new }
     {
         let direction = self.direction(last)?;
         let (cause, offset) = self.held::<K>(bin_count(columns, rows, direction))?;
@@ -94,7 +94,7 @@ impl<'a> Lexer<'a> {
     ) -> Result<usize, TextFault>
         requires sizes { (side_ok columns ≡ true) × (side_ok rows ≡ true) }
         requires room { length lines.old ≡ most_places }
-        ensures reads { ReadsAs (λ count. map (place_from K.Kind K.Coded self.old.text.now columns rows) (take count lines.new)) (λ n. places_reader K.Coded n columns rows None most_places) self.old result self.new }
+        ensures reads { ReadsAs (λ count. map (place_from K.Kind K.Coded.own self.old.text.now columns rows) (take count lines.new)) (λ n. places_reader K.Coded.own n columns rows None most_places) self.old result self.new }
         ensures few { IfOk result (λ count. count ≤ most_places) }
     {
         let mut last = None;

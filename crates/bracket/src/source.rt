@@ -21,7 +21,7 @@ impl Layout {
     // Reads a text of any content and length as a file of a kind of sample.
     pub fn of<K: Coded>(text: &[u8]) -> Result<Layout, Fault>
         requires { IsWord K.Coded.name }
-        ensures { layout_outcome K.Kind K.Coded text.now result ≡ asked_file (read_file K.Coded text.now) }
+        ensures { layout_outcome K.Kind K.Coded.own text.now result ≡ asked_file (read_file K.Coded.own text.now) }
     {
         let direction = Direction { p: 0, q: 1 };
         let entry = Record {
@@ -42,7 +42,7 @@ impl Layout {
 // The sample whose code begins at a byte; zero where there is no code.
 fn found<K: Coded>(text: &[u8], byte: usize) -> K
     requires { byte < 2 ^ 32 }
-    ensures { result ≡ found_at K.Kind K.Coded text.now byte }
+    ensures { result ≡ found_at K.Kind K.Coded.own text.now byte }
 {
     let width = K::digits();
     if text.len() < byte + width {
@@ -57,7 +57,7 @@ fn found<K: Coded>(text: &[u8], byte: usize) -> K
 impl<'a, K: Coded> BracketFile<'a, K> {
     // A text with its layout.
     pub fn new(text: &'a [u8], layout: Layout) -> BracketFile<'a, K>
-        ensures { file_meaning K.Kind K.Coded result ≡ layout_meaning K.Kind K.Coded text.now layout }
+        ensures { file_meaning K.Kind K.Coded.own result ≡ layout_meaning K.Kind K.Coded.own text.now layout }
     {
         BracketFile {
             text,
@@ -68,14 +68,14 @@ impl<'a, K: Coded> BracketFile<'a, K> {
 
     // Columns, rows and places.
     pub fn sizes(&self) -> (usize, usize, usize)
-        ensures { result ≡ asked_sizes (file_meaning K.Kind K.Coded self.now) }
+        ensures { result ≡ asked_sizes (file_meaning K.Kind K.Coded.own self.now) }
     {
         (self.layout.columns, self.layout.rows, self.layout.count)
     }
 
     // The direction of place i, and its cause.
     pub fn place(&self, i: usize) -> Result<Record, Fault>
-        ensures { outcome result ≡ asked_place (file_meaning K.Kind K.Coded self.now) i }
+        ensures { outcome result ≡ asked_place (file_meaning K.Kind K.Coded.own self.now) i }
     {
         if i >= self.layout.count {
             return Err(Fault::NoPlace);
@@ -86,7 +86,7 @@ impl<'a, K: Coded> BracketFile<'a, K> {
 
     // Bin b of place i, found in the text.
     pub fn bin(&self, i: usize, b: usize) -> Result<K, Fault>
-        ensures { outcome result ≡ asked_bin K.Kind (file_meaning K.Kind K.Coded self.now) i b }
+        ensures { outcome result ≡ asked_bin K.Kind (file_meaning K.Kind K.Coded.own self.now) i b }
     {
         if i >= self.layout.count {
             return Err(Fault::NoPlace);

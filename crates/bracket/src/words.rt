@@ -157,7 +157,7 @@ impl<'a> Lexer<'a> {
 
     // The code of a sample.
     pub(crate) fn code<K: Coded>(&mut self) -> Result<K, TextFault>
-        ensures { Reads (λ n. accept n (code_word K.Coded)) self.old result self.new }
+        ensures { Reads (λ n. accept n (code_word K.Coded.own)) self.old result self.new }
     {
         let byte = self.byte();
         let Token::Word(word, _) = self.next() else {

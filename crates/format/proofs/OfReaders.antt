@@ -9,15 +9,15 @@ use Rattle.format.proofs.OfTokens.{Ends, token_word, after_word, token_split}
 
 -- Writing ---------------------------------------------------------------------------------------------------------
 
-pub then-done :
+pub then_done :
     {A B : Type 0} {x : Parsed A} (f : A → Reader B) {a : A} {s : List ℕ} {y : Parsed B} → x ≡ done a s → f a s ≡ y → then x f ≡ y
-then-done f e k = ap (λ x. then x f) e ∙ k
+then_done f e k = ap (λ x. then x f) e ∙ k
 
 -- a written word is read as what it is worth
-pub accept-word :
+pub accept_word :
     {A : Type 0} (n : ℕ) (worth : List ℕ → Worth A) (a : A) (w r : List ℕ) → worth w ≡ good a → IsWord w → Ends r
     → accept n worth (w ++ r) ≡ done a r
-accept-word n worth a w r e i s =
+accept_word n worth a w r e i s =
     ap (λ t. judged n (w ++ r) (worth t)) (token_word w r i s) ∙ ap (judged n (w ++ r)) e ∙ ap (done a) (after_word w r i s)
 
 pub exactly_there : (t : List ℕ) → exactly t t ≡ good tt
@@ -32,26 +32,26 @@ then_same : {A : Type 0} (x : Parsed A) → then x done ≡ x
 then_same (done a s) = refl
 then_same (fault byte why) = refl
 
-judged-back :
+judged_back :
     {A B : Type 0} (n : ℕ) (bs : List ℕ) (f : A → Reader B) (v : Worth A) (b : B) (r : List ℕ) → then (judged n bs v) f ≡ done b r
     → (a : A) × (v ≡ good a) × (f a (after bs) ≡ done b r)
-judged-back n bs f (good a) b r h = (a, refl, h)
-judged-back n bs f (bad why) b r h = let z : ◌≡◌ {A = ℕ} 0 1 = cc in absurd (omega arith)
+judged_back n bs f (good a) b r h = (a, refl, h)
+judged_back n bs f (bad why) b r h = let z : ◌≡◌ {A = ℕ} 0 1 = cc in absurd (omega arith)
 
 -- a word w, worth a
-pub accept-back :
+pub accept_back :
     {A B C : Type 0} (n : ℕ) (worth : List ℕ → Worth A) (f : A → Reader B) (bs : List ℕ) (b : B) (r : List ℕ)
     → then (accept n worth bs) f ≡ done b r
     → ((a : A) (w s : List ℕ) → bs ≡ w ++ s → worth w ≡ good a → f a s ≡ done b r → C) → C
-accept-back n worth f bs b r h k =
-    let j = judged-back n bs f (worth (token bs)) b r h in k j.0 (token bs) (after bs) (sym (token_split bs)) j.1 j.2
+accept_back n worth f bs b r h k =
+    let j = judged_back n bs f (worth (token bs)) b r h in k j.0 (token bs) (after bs) (sym (token_split bs)) j.1 j.2
 
 -- a word w, worth b, as the last step
-pub last-back :
+pub last_back :
     {B C : Type 0} (n : ℕ) (worth : List ℕ → Worth B) (bs : List ℕ) (b : B) (r : List ℕ) → accept n worth bs ≡ done b r
     → ((w : List ℕ) → bs ≡ w ++ r → worth w ≡ good b → C) → C
-last-back n worth bs b r h k =
-    accept-back n worth done bs b r (then_same (accept n worth bs) ∙ h) λ a w s e g m.
+last_back n worth bs b r h k =
+    accept_back n worth done bs b r (then_same (accept n worth bs) ∙ h) λ a w s e g m.
     let same = done_same a b s r m in k w (e ∙ ap (λ l. w ++ l) same.1) (g ∙ ap good same.0)
 
 exactly_back : (t w : List ℕ) (u : Unit {0}) → exactly t w ≡ good u → w ≡ t
@@ -62,18 +62,18 @@ exactly_back t w u h = (bytes_eq-Decides w t).0 (go (bytes_eq w t) h)
     go false e = let z : ◌≡◌ {A = ℕ} 0 1 = cc in absurd (omega arith)
 
 -- the token t
-pub expect-back :
+pub expect_back :
     {B C : Type 0} (n : ℕ) (t : List ℕ) (f : Reader B) (bs : List ℕ) (b : B) (r : List ℕ)
     → then (expect n t bs) (λ _. f) ≡ done b r → ((s : List ℕ) → bs ≡ t ++ s → f s ≡ done b r → C) → C
-expect-back n t f bs b r h k =
-    accept-back n (exactly t) (λ _. f) bs b r h λ u w s e g m. k s (e ∙ ap (λ v. v ++ s) (exactly_back t w u g)) m
+expect_back n t f bs b r h k =
+    accept_back n (exactly t) (λ _. f) bs b r h λ u w s e g m. k s (e ∙ ap (λ v. v ++ s) (exactly_back t w u g)) m
 
 -- what another reader took
-pub then-back :
+pub then_back :
     {A B C : Type 0} (x : Parsed A) (f : A → Reader B) (b : B) (r : List ℕ) → then x f ≡ done b r
     → ((a : A) (s : List ℕ) → x ≡ done a s → f a s ≡ done b r → C) → C
-then-back (done a s) f b r h k = k a s refl h
-then-back (fault byte why) f b r h k = let z : ◌≡◌ {A = ℕ} 0 1 = cc in absurd (omega arith)
+then_back (done a s) f b r h k = k a s refl h
+then_back (fault byte why) f b r h k = let z : ◌≡◌ {A = ℕ} 0 1 = cc in absurd (omega arith)
 
 -- the end of input
 pub end_back :

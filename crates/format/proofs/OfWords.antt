@@ -19,11 +19,11 @@ use Rattle.format.proofs.OfNumbers.{numeral_signed, numeral_back, passed}
 within_there : (low high why v : ℕ) → low ≤ v → v ≤ high → within low high why (Some (pos v)) ≡ good v
 within_there low high why v l h = cond-true (leb low v && leb v high) _ _ (and_from _ _ (le-leb low v l) (le-leb v high h))
 
-within-back :
+within_back :
     (low high why v : ℕ) (o : Option ℤ) → within low high why o ≡ good v → (o ≡ Some (pos v)) × (low ≤ v) × (v ≤ high)
-within-back low high why v None h = let z : ◌≡◌ {A = ℕ} 0 1 = cc in absurd (omega arith)
-within-back low high why v (Some (negsuc u)) h = let z : ◌≡◌ {A = ℕ} 0 1 = cc in absurd (omega arith)
-within-back low high why v (Some (pos u)) h =
+within_back low high why v None h = let z : ◌≡◌ {A = ℕ} 0 1 = cc in absurd (omega arith)
+within_back low high why v (Some (negsuc u)) h = let z : ◌≡◌ {A = ℕ} 0 1 = cc in absurd (omega arith)
+within_back low high why v (Some (pos u)) h =
     let t = passed (leb low u && leb u high) u why v h in
     let p = and_parts (leb low u) (leb u high) t.0 in
     let same = t.1 in
@@ -33,11 +33,11 @@ within-back low high why v (Some (pos u)) h =
 pub number_there : (low high why v : ℕ) → low ≤ v → v ≤ high → v < 2 ^ 64 → within low high why (numeral (decimal v)) ≡ good v
 number_there low high why v l h s = ap (within low high why) (numeral_signed (pos v) s) ∙ within_there low high why v l h
 
-pub number-back :
+pub number_back :
     (low high why v : ℕ) (w : List ℕ) → within low high why (numeral w) ≡ good v → high < 2 ^ 64
     → (w ≡ decimal v) × (low ≤ v) × (v ≤ high)
-number-back low high why v w e s =
-    let b = within-back low high why v (numeral w) e in (numeral_back w (pos v) b.0 (omega (arith, b.2)), b.1, b.2)
+number_back low high why v w e s =
+    let b = within_back low high why v (numeral w) e in (numeral_back w (pos v) b.0 (omega (arith, b.2)), b.1, b.2)
 
 -- Directions ------------------------------------------------------------------------------------------------------
 
@@ -61,9 +61,9 @@ steps_bound d h =
     let c = and_parts (leb (nat_abs d.q) most_step) _ b.1 in
     (leb-true (nat_abs d.p) most_step a.0, leb-true (nat_abs d.q) most_step c.0)
 
-pub q-there :
+pub q_there :
     (last : Option Direction) (d : Direction) → lawful d ≡ true → follows last d ≡ true → q_word last d.p (signed_decimal d.q) ≡ good d
-q-there last d l f =
+q_there last d l f =
     ap (after_last last d.p) (numeral_signed d.q (omega (arith, (steps_bound d l).1)))
     ∙ cond-true (lawful d) _ _ l
     ∙ cond-true (follows last d) _ _ f
@@ -74,11 +74,11 @@ pub record GoodQ (last : Option Direction) (p : ℤ) (w : List ℕ) (d : Directi
   pub law : lawful d ≡ true
   pub order : follows last d ≡ true
 
-after-back :
+after_back :
     (last : Option Direction) (p : ℤ) (o : Option ℤ) (d : Direction) → after_last last p o ≡ good d
     → (o ≡ Some d.q) × (p ≡ d.p) × (lawful d ≡ true) × (follows last d ≡ true)
-after-back last p None d h = let e : ◌≡◌ {A = ℕ} 0 1 = cc in absurd (omega arith)
-after-back last p (Some q) d h =
+after_back last p None d h = let e : ◌≡◌ {A = ℕ} 0 1 = cc in absurd (omega arith)
+after_back last p (Some q) d h =
     ⊎_elim
     (λ l.
     let t = passed (follows last (direction_of p q)) (direction_of p q) 4 d (sym (cond-true (lawful (direction_of p q)) _ _ l) ∙ h) in
@@ -90,7 +90,7 @@ after-back last p (Some q) d h =
 
 pub q_back : (last : Option Direction) (p : ℤ) (w : List ℕ) (d : Direction) → q_word last p w ≡ good d → GoodQ last p w d
 q_back last p w d h =
-    let b = after-back last p (numeral w) d h in
+    let b = after_back last p (numeral w) d h in
     record { across = b.1; text = numeral_back w d.q b.0 (omega (arith, (steps_bound d b.2).1)); law = b.2; order = b.3 }
 
 -- Names -----------------------------------------------------------------------------------------------------------

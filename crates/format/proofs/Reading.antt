@@ -17,13 +17,13 @@ use Rattle.format.specs.Readers.{Parsed, done, fault, Reader, then, good}
 use Rattle.format.specs.Texts.{codes_text, head_text, direction_text, trimmed_place, held_text, dir_text, places_text}
 use Rattle.format.proofs.OfCodes.{sample_back}
 use Rattle.format.proofs.OfPlaces.{Steps, parts_lawful, all_sums}
-use Rattle.format.proofs.OfReaders.{accept-back, expect-back, last-back, then-back, end_back, done_same}
-use Rattle.format.proofs.OfWords.{number-back, p_back, q_back, bins_name, bins_back, LineWord, line_back}
+use Rattle.format.proofs.OfReaders.{accept_back, expect_back, last_back, then_back, end_back, done_same}
+use Rattle.format.proofs.OfWords.{number_back, p_back, q_back, bins_name, bins_back, LineWord, line_back}
 
 -- The first line --------------------------------------------------------------------------------------------------
 
 size_back : (w : List ℕ) (v : ℕ) → size_word w ≡ good v → (w ≡ decimal v) × ((1 ≤ v) × (v ≤ most_side))
-size_back w v h = let b = number-back 1 most_side 1 v w h (omega arith) in (b.0, (b.1, b.2))
+size_back w v h = let b = number_back 1 most_side 1 v w h (omega arith) in (b.0, (b.1, b.2))
 
 pub record GoodHead (name t : List ℕ) (v : ℕ × ℕ) (r : List ℕ) : Type 0 where
   pub wide : (1 ≤ v.0) × (v.0 ≤ most_side)
@@ -32,16 +32,16 @@ pub record GoodHead (name t : List ℕ) (v : ℕ × ℕ) (r : List ℕ) : Type 0
 
 head_back : (name : List ℕ) (n : ℕ) (t : List ℕ) (v : ℕ × ℕ) (r : List ℕ) → head_reader name n t ≡ done v r → GoodHead name t v r
 head_back name n t v r h =
-    expect-back n (text "(") _ t v r h λ s1 e1 h1.
-    expect-back n (text "tile") _ s1 v r h1 λ s2 e2 h2.
-    expect-back n (text " ") _ s2 v r h2 λ s3 e3 h3.
-    expect-back n name _ s3 v r h3 λ s4 e4 h4.
-    expect-back n (text " ") _ s4 v r h4 λ s5 e5 h5.
-    accept-back n size_word _ s5 v r h5 λ P w6 s6 e6 g6 h6.
-    expect-back n (text " ") _ s6 v r h6 λ s7 e7 h7.
-    accept-back n size_word _ s7 v r h7 λ Q w8 s8 e8 g8 h8.
-    expect-back n (text ")") _ s8 v r h8 λ s9 e9 h9.
-    expect-back n (10 ∷ []) _ s9 v r h9 λ s10 e10 h10.
+    expect_back n (text "(") _ t v r h λ s1 e1 h1.
+    expect_back n (text "tile") _ s1 v r h1 λ s2 e2 h2.
+    expect_back n (text " ") _ s2 v r h2 λ s3 e3 h3.
+    expect_back n name _ s3 v r h3 λ s4 e4 h4.
+    expect_back n (text " ") _ s4 v r h4 λ s5 e5 h5.
+    accept_back n size_word _ s5 v r h5 λ P w6 s6 e6 g6 h6.
+    expect_back n (text " ") _ s6 v r h6 λ s7 e7 h7.
+    accept_back n size_word _ s7 v r h7 λ Q w8 s8 e8 g8 h8.
+    expect_back n (text ")") _ s8 v r h8 λ s9 e9 h9.
+    expect_back n (10 ∷ []) _ s9 v r h9 λ s10 e10 h10.
     let same = done_same (P, Q) v s10 r h10 in
     let p = size_back w6 P g6 in
     let q = size_back w8 Q g8 in
@@ -65,10 +65,10 @@ direction_back :
     (n : ℕ) (last : Option Direction) (bs : List ℕ) (d : Direction) (r : List ℕ) → direction_reader n last bs ≡ done d r
     → GoodDirection last bs d r
 direction_back n last bs d r h =
-    expect-back n (text " ") _ bs d r h λ s1 e1 h1.
-    accept-back n p_word _ s1 d r h1 λ p w s2 e2 g2 h2.
-    expect-back n (text " ") _ s2 d r h2 λ s3 e3 h3.
-    last-back n (q_word last p) s3 d r h3 λ u e4 g4.
+    expect_back n (text " ") _ bs d r h λ s1 e1 h1.
+    accept_back n p_word _ s1 d r h1 λ p w s2 e2 g2 h2.
+    expect_back n (text " ") _ s2 d r h2 λ s3 e3 h3.
+    last_back n (q_word last p) s3 d r h3 λ u e4 g4.
     let y = q_back last p u d g4 in
     record {
       law = y.law;
@@ -85,9 +85,9 @@ module _ {S : Type 0} (C : Codes S) (n : ℕ) where
   codes_back zero bs xs r h =
       let e = done_same [] xs bs r h in subst₂ (GoodCodes zero bs) e.0 e.1 (record { count = refl; is = refl })
   codes_back (suc b) bs xs r h =
-      expect-back n (text " ") _ bs xs r h λ s1 e1 h1.
-      accept-back n (code_word C) _ s1 xs r h1 λ x w s2 e2 g h2.
-      then-back (codes_reader C n b s2) _ xs r h2 λ ys s3 e3 h3.
+      expect_back n (text " ") _ bs xs r h λ s1 e1 h1.
+      accept_back n (code_word C) _ s1 xs r h1 λ x w s2 e2 g h2.
+      then_back (codes_reader C n b s2) _ xs r h2 λ ys s3 e3 h3.
       let e = done_same (x ∷ ys) xs s3 r h3 in
       let i = codes_back b s2 ys s3 e3 in
       subst₂ (GoodCodes (suc b) bs) e.0 e.1 (record {
@@ -106,11 +106,11 @@ module _ {S : Type 0} (K : Operations S) (C : Codes S) (n P Q : ℕ) where
     pub trim : trimmed_place K P Q (place_of d y) ≡ place_of d y
     pub is : bs ≡ held_text K C P Q (place_of d y) r
 
-  sums-back :
+  sums_back :
       (d : Direction) (how : Bool) (bs : List ℕ) (y : ℕ × List S) (r : List ℕ) → sums_reader C n (bins P Q d) how bs ≡ done y r
       → GoodHeld d (bins_name how ++ bs) y r
-  sums-back d true bs y r h =
-      then-back (codes_reader C n (bins P Q d) bs) _ y r h λ xs s1 e1 h1.
+  sums_back d true bs y r h =
+      then_back (codes_reader C n (bins P Q d) bs) _ y r h λ xs s1 e1 h1.
       let e = done_same (0, xs) y s1 r h1 in
       let i = codes_back C n (bins P Q d) bs xs s1 e1 in
       let all = all_sums K P Q (place_of d (0, xs)) i.count in
@@ -119,11 +119,11 @@ module _ {S : Type 0} (K : Operations S) (C : Codes S) (n P Q : ℕ) where
         trim = ap {B = Place S} (λ l. record { entry = record { direction = d; cause = 0 }; sums = l }) all;
         is = ap (λ l. text "bins" ++ l) (i.is ∙ ap (λ l. codes_text C l s1) (sym all));
       })
-  sums-back d false bs y r h =
-      expect-back n (text " ") _ bs y r h λ s1 e1 h1.
-      accept-back n cause_word _ s1 y r h1 λ c w s2 e2 g h2.
+  sums_back d false bs y r h =
+      expect_back n (text " ") _ bs y r h λ s1 e1 h1.
+      accept_back n cause_word _ s1 y r h1 λ c w s2 e2 g h2.
       let e = done_same (c, []) y s2 r h2 in
-      let v = number-back 1 most_cause 0 c w g (omega arith) in
+      let v = number_back 1 most_cause 0 c w g (omega arith) in
       let lost : eqb c 0 ≡ false = ne_eqb c 0 (λ z. omega (arith, v.1)) in
       subst₂ (GoodHeld d (text "lost" ++ bs)) e.0 e.1 (record {
         small = v.2;
@@ -135,16 +135,16 @@ module _ {S : Type 0} (K : Operations S) (C : Codes S) (n P Q : ℕ) where
       (d : Direction) (bs : List ℕ) (y : ℕ × List S) (r : List ℕ) → held_reader C n (bins P Q d) bs ≡ done y r
       → (s : List ℕ) × GoodHeld d s y (text "))" ++ (10 ∷ r)) × (bs ≡ text " (" ++ s)
   held_back d bs y r h =
-      expect-back n (text " ") _ bs y r h λ s1 e1 h1.
-      expect-back n (text "(") _ s1 y r h1 λ s2 e2 h2.
-      accept-back n bins_word _ s2 y r h2 λ how w s3 e3 g h3.
-      then-back (sums_reader C n (bins P Q d) how s3) _ y r h3 λ z s4 e4 h4.
-      expect-back n (text ")") _ s4 y r h4 λ s5 e5 h5.
-      expect-back n (text ")") _ s5 y r h5 λ s6 e6 h6.
-      expect-back n (10 ∷ []) _ s6 y r h6 λ s7 e7 h7.
+      expect_back n (text " ") _ bs y r h λ s1 e1 h1.
+      expect_back n (text "(") _ s1 y r h1 λ s2 e2 h2.
+      accept_back n bins_word _ s2 y r h2 λ how w s3 e3 g h3.
+      then_back (sums_reader C n (bins P Q d) how s3) _ y r h3 λ z s4 e4 h4.
+      expect_back n (text ")") _ s4 y r h4 λ s5 e5 h5.
+      expect_back n (text ")") _ s5 y r h5 λ s6 e6 h6.
+      expect_back n (10 ∷ []) _ s6 y r h6 λ s7 e7 h7.
       let e = done_same z y s7 r h7 in
       let tail : s4 ≡ 41 ∷ (41 ∷ (10 ∷ r)) = e5 ∙ ap (λ l. 41 ∷ l) (e6 ∙ ap (λ l. 41 ∷ l) (e7 ∙ ap (λ l. 10 ∷ l) e.1)) in
-      (bins_name how ++ s3, subst₂ (GoodHeld d (bins_name how ++ s3)) e.0 tail (sums-back d how s3 z s4 e4), e1 ∙ ap (λ l. 32 ∷ l) (e2 ∙ ap (λ l. 40 ∷ l) (e3 ∙ ap (λ x. x ++ s3) (bins_back w how g))))
+      (bins_name how ++ s3, subst₂ (GoodHeld d (bins_name how ++ s3)) e.0 tail (sums_back d how s3 z s4 e4), e1 ∙ ap (λ l. 32 ∷ l) (e2 ∙ ap (λ l. 40 ∷ l) (e3 ∙ ap (λ x. x ++ s3) (bins_back w how g))))
 
   pub record GoodPlace (last : Option Direction) (bs : List ℕ) (x : Place S) (r : List ℕ) : Type 0 where
     pub law : lawful x.entry.direction ≡ true
@@ -153,12 +153,12 @@ module _ {S : Type 0} (K : Operations S) (C : Codes S) (n P Q : ℕ) where
     pub trim : trimmed_place K P Q x ≡ x
     pub is : bs ≡ dir_text K C P Q x r
 
-  dir-back :
+  dir_back :
       (last : Option Direction) (bs : List ℕ) (x : Place S) (r : List ℕ) → dir_reader C n P Q last bs ≡ done x r
       → GoodPlace last bs x r
-  dir-back last bs x r h =
-      then-back (direction_reader n last bs) _ x r h λ d s1 e1 h1.
-      then-back (held_reader C n (bins P Q d) s1) _ x r h1 λ y s2 e2 h2.
+  dir_back last bs x r h =
+      then_back (direction_reader n last bs) _ x r h λ d s1 e1 h1.
+      then_back (held_reader C n (bins P Q d) s1) _ x r h1 λ y s2 e2 h2.
       let e = done_same (place_of d y) x s2 r h2 in
       let i = direction_back n last bs d s1 e1 in
       let j = held_back d s1 y s2 e2 in
@@ -185,8 +185,8 @@ module _ {S : Type 0} (K : Operations S) (C : Codes S) (n P Q : ℕ) where
       (last : Option Direction) (room : ℕ) (bs s : List ℕ) (xs : List (Place S)) (r : List ℕ) → bs ≡ text "(end" ++ s
       → is_first last ≡ false → end_reader n s ≡ done xs r → Good-places last room bs xs
   last_line last room bs s xs r e f h =
-      expect-back n (text ")") _ s xs r h λ s1 e1 h1.
-      expect-back n (10 ∷ []) _ s1 xs r h1 λ s2 e2 h2.
+      expect_back n (text ")") _ s xs r h λ s1 e1 h1.
+      expect_back n (10 ∷ []) _ s1 xs r h1 λ s2 e2 h2.
       end_back n _ s2 xs r h2 λ e3 h3.
       let same = done_same [] xs [] r h3 in
       subst (Good-places last room bs) same.0 (record {
@@ -204,12 +204,12 @@ module _ {S : Type 0} (K : Operations S) (C : Codes S) (n P Q : ℕ) where
       then (dir_reader C n P Q last bs) (λ x s. then (places_reader C n P Q (Some x.entry.direction) room s) (λ xs. done (x ∷ xs)))
   line_reader last room false bs = end_reader n bs
 
-  places-back :
+  places_back :
       (last : Option Direction) (room : ℕ) (bs : List ℕ) (xs : List (Place S)) (r : List ℕ)
       → places_reader C n P Q last room bs ≡ done xs r → Good-places last room bs xs
-  places-back last zero bs xs r h =
-      expect-back n (text "(") _ bs xs r h λ s1 e1 h1.
-      accept-back n (line_word (is_first last) false) _ s1 xs r h1 λ more w s2 e2 g h2.
+  places_back last zero bs xs r h =
+      expect_back n (text "(") _ bs xs r h λ s1 e1 h1.
+      accept_back n (line_word (is_first last) false) _ s1 xs r h1 λ more w s2 e2 g h2.
       go more w s2 (e1 ∙ ap (λ l. 40 ∷ l) e2) (line_back (is_first last) false w more g) h2
     where
       go :
@@ -217,10 +217,10 @@ module _ {S : Type 0} (K : Operations S) (C : Codes S) (n P Q : ℕ) where
           → Good-places last zero bs xs
       go true w s e l k = let y = l.1 in let z : ◌≡◌ {A = ℕ} 0 1 = cc in absurd (omega arith)
       go false w s e l k = last_line last zero bs s xs r (e ∙ ap (λ v. 40 ∷ (v ++ s)) l.0) l.1 k
-  places-back last (suc room) bs xs r h =
-      expect-back n (text "(") _ bs xs r h λ s1 e1 h1.
-      accept-back n (line_word (is_first last) true) _ s1 xs r h1 λ more w s2 e2 g h2.
-      go (λ v s ys q k. places-back v room s ys q k) more w s2 (e1 ∙ ap (λ l. 40 ∷ l) e2) (line_back (is_first last) true w more g) h2
+  places_back last (suc room) bs xs r h =
+      expect_back n (text "(") _ bs xs r h λ s1 e1 h1.
+      accept_back n (line_word (is_first last) true) _ s1 xs r h1 λ more w s2 e2 g h2.
+      go (λ v s ys q k. places_back v room s ys q k) more w s2 (e1 ∙ ap (λ l. 40 ∷ l) e2) (line_back (is_first last) true w more g) h2
     where
       go :
           ((v : Option Direction) (s : List ℕ) (ys : List (Place S)) (q : List ℕ) → places_reader C n P Q v room s ≡ done ys q → Good-places v room s ys)
@@ -228,10 +228,10 @@ module _ {S : Type 0} (K : Operations S) (C : Codes S) (n P Q : ℕ) where
           → Good-places last (suc room) bs xs
       go rec false w s e l k = last_line last (suc room) bs s xs r (e ∙ ap (λ v. 40 ∷ (v ++ s)) l.0) l.1 k
       go rec true w s e l k =
-          then-back (dir_reader C n P Q last s) _ xs r k λ x s3 e3 h3.
-          then-back (places_reader C n P Q (Some x.entry.direction) room s3) _ xs r h3 λ ys s4 e4 h4.
+          then_back (dir_reader C n P Q last s) _ xs r k λ x s3 e3 h3.
+          then_back (places_reader C n P Q (Some x.entry.direction) room s3) _ xs r h3 λ ys s4 e4 h4.
           let same = done_same (x ∷ ys) xs s4 r h4 in
-          let i = dir-back last s x s3 e3 in
+          let i = dir_back last s x s3 e3 in
           let j = rec (Some x.entry.direction) s3 ys s4 e4 in
           subst (Good-places last (suc room) bs) same.0 (record {
             each = (i.law, i.order, j.each);
@@ -247,11 +247,11 @@ module _ {S : Type 0} (K : Operations S) (C : Codes S) (n P Q : ℕ) where
 module _ {S : Type 0} (K : Operations S) (C : Codes S) where
   file_back : (n : ℕ) (t : List ℕ) (m : Meaning S) (r : List ℕ) → file_reader C n t ≡ done m r → ToldBy K C t m
   file_back n t m r h =
-      then-back (head_reader C.name n t) _ m r h λ v s1 e1 h1.
-      then-back (places_reader C n v.0 v.1 None most_places s1) _ m r h1 λ xs s2 e2 h2.
+      then_back (head_reader C.name n t) _ m r h λ v s1 e1 h1.
+      then_back (places_reader C n v.0 v.1 None most_places s1) _ m r h1 λ xs s2 e2 h2.
       let same = done_same (record { P = v.0; Q = v.1; places = xs }) m s2 r h2 in
       let i = head_back C.name n t v s1 e1 in
-      let j = places-back K C n v.0 v.1 None most_places s1 xs s2 e2 in
+      let j = places_back K C n v.0 v.1 None most_places s1 xs s2 e2 in
       let count = length-map xs (λ x. x.entry) in
       let some = j.some refl in
       subst (ToldBy K C t) same.0 (record {

@@ -13,7 +13,7 @@ use samples::{Coded, Pair, SumWord, XorWord};
 // Each lawful meaning has one text, which is read as that meaning, and all other text is refused: for every kind whose name is a word.
 pub fn one_text<K: Coded>()
     requires { IsWord K.Coded.name }
-    ensures { OneText K.Kind K.Coded }
+    ensures { OneText K.Kind K.Coded.own }
 {}
 
 // So it is for the kinds of the bench.

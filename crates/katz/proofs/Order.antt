@@ -30,14 +30,14 @@ not_level (negsuc q) n p a hq hn level h = absurd hq.le
 positive_after : (d e : Direction) → Lawful d → Lawful e → Before d e → pos 0 <ℤ e.q
 positive_after d e ld le h = not_level e.q d.q e.p d.p le.down ld.down le.level h
 
-turn-trans :
+turn_trans :
     (a b c l m n : ℤ) → pos 0 ≤ℤ l → pos 0 <ℤ m → pos 0 <ℤ n → (b *ℤ l) <ℤ (a *ℤ m) → (c *ℤ m) <ℤ (b *ℤ n)
     → (c *ℤ l) <ℤ (a *ℤ n)
-turn-trans a b c l (negsuc m) n hl hm hn h₁ h₂ = absurd hm.lt
-turn-trans a b c l (pos m) (negsuc n) hl hm hn h₁ h₂ = absurd hn.lt
-turn-trans a b c l (pos zero) (pos n) hl hm hn h₁ h₂ = absurd (omega (arith, ints))
-turn-trans a b c l (pos (suc m)) (pos zero) hl hm hn h₁ h₂ = absurd (omega (arith, ints))
-turn-trans a b c l (pos (suc m)) (pos (suc n)) hl hm hn h₁ h₂ =
+turn_trans a b c l (negsuc m) n hl hm hn h₁ h₂ = absurd hm.lt
+turn_trans a b c l (pos m) (negsuc n) hl hm hn h₁ h₂ = absurd hn.lt
+turn_trans a b c l (pos zero) (pos n) hl hm hn h₁ h₂ = absurd (omega (arith, ints))
+turn_trans a b c l (pos (suc m)) (pos zero) hl hm hn h₁ h₂ = absurd (omega (arith, ints))
+turn_trans a b c l (pos (suc m)) (pos (suc n)) hl hm hn h₁ h₂ =
     by_lt_z (c *ℤ l) (a *ℤ pos (suc n)) (λ h. h)
     (λ (h : (a *ℤ pos (suc n)) ≤ℤ (c *ℤ l)).
     let k₁ : ((b *ℤ l) *ℤ pos (suc n)) <ℤ ((a *ℤ pos (suc n)) *ℤ pos (suc m)) =
@@ -52,12 +52,12 @@ turn-trans a b c l (pos (suc m)) (pos (suc n)) hl hm hn h₁ h₂ =
 
 before_trans : (d e f : Direction) → Lawful d → Lawful e → Lawful f → Before d e → Before e f → Before d f
 before_trans d e f ld le lf h₁ h₂ =
-    turn-trans d.p e.p f.p d.q e.q f.q ld.down (positive_after d e ld le h₁) (positive_after e f le lf h₂) h₁ h₂
+    turn_trans d.p e.p f.p d.q e.q f.q ld.down (positive_after d e ld le h₁) (positive_after e f le lf h₂) h₁ h₂
 
-before-all :
+before_all :
     (d e : Direction) (ds : List Direction) → Lawful d → Lawful e → All Lawful ds → Before d e → All (Before e) ds → All (Before d) ds
-before-all d e [] ld le ls h hs = tt
-before-all d e (f ∷ ds) ld le ls h hs = (before_trans d e f ld le ls.0 h hs.0, before-all d e ds ld le ls.1 h hs.1)
+before_all d e [] ld le ls h hs = tt
+before_all d e (f ∷ ds) ld le ls h hs = (before_trans d e f ld le ls.0 h hs.0, before_all d e ds ld le ls.1 h hs.1)
 
 before_is : (d e : Direction) → before d e ≡ true → Before d e
 before_is d e h = go (e.p *ℤ d.q) (d.p *ℤ e.q) h
@@ -72,7 +72,7 @@ sorted (d ∷ e ∷ ds) ls h =
     let t = and_parts (before d e) (in_order (e ∷ ds)) h in
     let b = before_is d e t.0 in
     let s = sorted (e ∷ ds) ls.1 t.1 in
-    ((b, before-all d e ds ls.0 ls.1.0 ls.1.1 b s.0), s)
+    ((b, before_all d e ds ls.0 ls.1.0 ls.1.1 b s.0), s)
 
 -- In a lawful list each direction stands before all later ones.
 pub each_before_later : (ds : List Direction) → LawfulDirections ds → EachBeforeLater ds

@@ -6,12 +6,12 @@ use Rattle.std.specs.List.{AllByRecursion as All}
 use Rattle.mojette.specs.declared.direction.Direction.{Direction}
 use Rattle.mojette.specs.Bins.{raw}
 use Rattle.katz.specs.Sets.{Pixels, Within, Partner, Paired, Alone, Peelable, Peels}
-use Rattle.katz.proofs.Pixels.{search-pixels}
+use Rattle.katz.proofs.Pixels.{search_pixels}
 use Rattle.katz.proofs.Span.{spans}
 
 module _ (P Q : ℕ) (S : Pixels) (inside : Within P Q S) where
   partner_or_alone : (d : Direction) (k l : ℕ) → S k l ≡ true → Partner S d k l ⊎ Alone S d k l
-  partner_or_alone d k l here = go (search-pixels P Q Itself Another (λ k' l' h h'. sort k' l'))
+  partner_or_alone d k l here = go (search_pixels P Q Itself Another (λ k' l' h h'. sort k' l'))
     where
       Itself : ℕ → ℕ → Type 0
       Itself k' l' = S k' l' ≡ true → raw d k' l' ≡ raw d k l → (k' ≡ k) × (l' ≡ l)
@@ -38,7 +38,7 @@ module _ (P Q : ℕ) (S : Pixels) (inside : Within P Q S) where
 
   paired_or_alone : (d : Direction) → Paired S d ⊎ ((k : ℕ) × (l : ℕ) × Alone S d k l)
   paired_or_alone d =
-      go (search-pixels P Q (λ k l. S k l ≡ true → Partner S d k l) (Alone S d) (λ k l h h'. by k l (cases_Bool (S k l))))
+      go (search_pixels P Q (λ k l. S k l ≡ true → Partner S d k l) (Alone S d) (λ k l h h'. by k l (cases_Bool (S k l))))
     where
       by : (k l : ℕ) → (S k l ≡ true) ⊎ (S k l ≡ false) → (S k l ≡ true → Partner S d k l) ⊎ Alone S d k l
       by k l (inr out) = inl (λ h. absurd (both_ways (S k l) out h))

@@ -27,10 +27,10 @@ module _ (P Q : ℕ) where
   at_cell F k l h f = subst₂ F (sym (mod-mul-add l P k h)) (sym (div-mul-add l P k h)) f
 
   -- Of two things one of which holds at each pixel, the first holds at all, or the second at one.
-  pub search-pixels :
+  pub search_pixels :
       (A B : ℕ → ℕ → Type 0) → ((k l : ℕ) → k < P → l < Q → A k l ⊎ B k l)
       → ((k l : ℕ) → k < P → l < Q → A k l) ⊎ ((k : ℕ) × (l : ℕ) × B k l)
-  search-pixels A B f =
+  search_pixels A B f =
       go (search_below {A = λ c. A (c % P) (c / P)} {B = λ c. B (c % P) (c / P)} (P * Q) (λ c h. f (c % P) (c / P) (column_below c h) (row_below c h)))
     where
       go : ((c : ℕ) → c < P * Q → A (c % P) (c / P)) ⊎ ((c : ℕ) × (c < P * Q) × B (c % P) (c / P)) → ((k l : ℕ) → k < P → l < Q → A k l) ⊎ ((k : ℕ) × (l : ℕ) × B k l)

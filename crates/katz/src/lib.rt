@@ -1,5 +1,7 @@
 // Katz's theorem on the projections of a tile, the span theorem that it rests on, and ghosts.
 // Each function states one theorem in its contract; the statements are in specs/, the proofs in proofs/.
+#![tactic(auto)]
+
 ghost use Rattle.katz.specs.Ghosts.{Katz};
 ghost use Rattle.katz.specs.Made.{GhostIsMade};
 ghost use Rattle.katz.specs.Sets.{Spans, Peels};

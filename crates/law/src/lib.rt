@@ -1,4 +1,6 @@
 // The law of a tile's life, from the open that gives it to its finish.
+#![tactic(auto)]
+
 ghost use Rattle.law.specs.Law.{Law};
 ghost use Rattle.law.specs.Worked.{Worked, WorkedFurther};
 

@@ -1,4 +1,6 @@
 // The words of the bench: directions, records, refusals; and the definition of the Mojette transform.
+#![tactic(auto)]
+
 pub mod direction;
 pub mod fault;
 pub mod order;

@@ -1,11 +1,11 @@
 -- The law, from the invariant.
-use Rattle.std.proofs.Common.{◌≡◌, ℕ, zero, ◌<◌, ◌≤◌, Bool, true, false, cond, not, ltb, ◌⊎◌, ◌↔◌, List, get_or, take, sym, refl, ap, ◌∙◌, subst, inl, inr, ⊎_elim, arith}
+use Rattle.std.proofs.Common.{◌≡◌, ℕ, ◌<◌, ◌≤◌, Bool, true, false, cond, not, ltb, ◌⊎◌, ◌↔◌, List, get_or, take, sym, refl, ap, ◌∙◌, subst, inl, inr, ⊎_elim, arith}
 use Rattle.std.proofs.lemmas.List.{get_or-take, length-take-le, ext_get_or}
 use Rattle.std.proofs.lemmas.Bool.{cases_lt, cases_Bool, ltb-true, ltb-false, not-false, not_from_true, both_ways}
 use Rattle.samples.specs.declared.kind.Kind.{Ghosts as Operations}
 use Rattle.peeling.specs.Incidence.{Incidence, OneMissing, Agrees}
 use Rattle.peeling.specs.Steps.{World, most, Refused, none_waits, bad_cell, grants, front, take_answers, pixels_missing, grants_out, left_over, served, first_left_over, finish_answers}
-use Rattle.peeling.specs.History.{History, settled, missing, missing_in, waits, out}
+use Rattle.peeling.specs.History.{History, missing, missing_in, waits, out}
 use Rattle.peeling.specs.Law.{Run, sealed, takes, settles_grant, gives_back, refuses, Facts, PeelingLaw}
 use Rattle.peeling.proofs.Counts.{tally_le, tally_at, number_none, number_zero, least_none, least_passes, one_if_yes}
 use Rattle.peeling.proofs.Sums.{drop_right}

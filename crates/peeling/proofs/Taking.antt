@@ -5,7 +5,7 @@ use Rattle.samples.specs.declared.kind.Kind.{Ghosts as Operations}
 use Rattle.peeling.specs.Counting.{one_if, tally}
 use Rattle.peeling.specs.Incidence.{Incidence}
 use Rattle.peeling.specs.Steps.{World, most, none_waits, bad_cell, grants, front, take_answers, taken, handed_in, with_state, take, give_back}
-use Rattle.peeling.specs.History.{History, took, settled, gave-back, refused, missing, waits, out, settles}
+use Rattle.peeling.specs.History.{History, took, gave-back, refused, missing, waits, out, settles}
 use Rattle.peeling.proofs.Bools.{and_true, or_false}
 use Rattle.peeling.proofs.Counts.{tally_le, one_if_no}
 use Rattle.peeling.proofs.Rings.{Ring, ring_front, ring_take, ring_append}

@@ -1,4 +1,6 @@
 // The law of the peeling decoder, over any pixels and bins of which one pixel is always alone.
+#![tactic(auto)]
+
 pub mod state;
 
 ghost use Rattle.peeling.specs.Law.{PeelingLaw};

@@ -35,11 +35,11 @@ module _ {S : Type 0} (K : Operations S) where
     adds_zero : (b : ℕ) → in_bin P Q d c b ≡ false → sample_at K P picture d (raw_of P Q d b) c ≡ K.zero
     adds_zero b e = ap (λ t. cond t (get_or picture c K.zero) K.zero) e
 
-    one-added :
+    one_added :
         (old v : S) → old ≡ get_or sums at K.zero → v ≡ K.plus old (get_or picture c K.zero) → at < length sums
         → SumUpTo K P Q d picture c sums → SumUpTo K P Q d picture (c + 1) (set sums at v)
     unfolding sum_below
-    one-added old v is-old is-v room sum b inside = go (cases_eq b at) (cases_Bool (in_bin P Q d c b)) ∙ ap (λ n. sum_below K n (sample_at K P picture d (raw_of P Q d b))) (sym (add-one c))
+    one_added old v is-old is-v room sum b inside = go (cases_eq b at) (cases_Bool (in_bin P Q d c b)) ∙ ap (λ n. sum_below K n (sample_at K P picture d (raw_of P Q d b))) (sym (add-one c))
       where
         go :
             (b ≡ at) ⊎ (b ≡ at → ⊥) → (in_bin P Q d c b ≡ true) ⊎ (in_bin P Q d c b ≡ false)
@@ -55,21 +55,21 @@ module _ {S : Type 0} (K : Operations S) where
             ∙ ap (K.plus (sum_below K c (sample_at K P picture d (raw_of P Q d b)))) (sym (adds_zero b t))
 
     -- the same of the code's own values
-    pub sample-added :
+    pub sample_added :
         (bin cell : ℕ) (old sample new : S) → bin ≡ at → cell ≡ c → old ≡ get_or sums bin old → sample ≡ get_or picture cell sample
         → new ≡ K.plus old sample → bin < length sums → cell < length picture
         → SumUpTo K P Q d picture c sums → SumUpTo K P Q d picture (l * P + (k + 1)) (set sums bin new)
-    sample-added bin cell old sample new is-bin is-cell is-old is-sample is-new room inside sum =
+    sample_added bin cell old sample new is-bin is-cell is-old is-sample is-new room inside sum =
         let e : c + 1 ≡ l * P + (k + 1) = omega arith in
         let value = is-new ∙ ap (K.plus old) (get_or_read picture cell sample inside is-sample K.zero ∙ ap (λ n. get_or picture n K.zero) is-cell) in
         let was = get_or_read sums bin old room is-old K.zero ∙ ap (λ n. get_or sums n K.zero) is-bin in
         subst₂ (λ n j. SumUpTo K P Q d picture n (set sums j new)) e (sym is-bin)
-        (one-added old new was value (subst (λ n. n < length sums) is-bin room) sum)
+        (one_added old new was value (subst (λ n. n < length sums) is-bin room) sum)
 
   -- All samples added: the cells are the projection.
-  pub all-added :
+  pub all_added :
       (P Q : ℕ) (d : Direction) (picture old new : List S) → bins P Q d ≤ length new → SumUpTo K P Q d picture (P * Q) new
       → drop (bins P Q d) new ≡ drop (bins P Q d) old → new ≡ projection K P Q picture d ++ drop (bins P Q d) old
-  all-added P Q d picture old new room sum others =
+  all_added P Q d picture old new room sum others =
       sym (take-append-drop (bins P Q d) new)
       ∙ (λ i. fill_by_all (bin_sum K P Q picture d) (take (bins P Q d) new) (bins P Q d) K.zero (length-take-le (bins P Q d) new room) (λ b l. get_or-take (bins P Q d) new b K.zero l ∙ sum b l) i ++ others i)

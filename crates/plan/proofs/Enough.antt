@@ -63,8 +63,8 @@ module _ (s : Shape) where
         (sym (ap (take (pixels_of s)) e ∙ take_at (ghost_tile K s.P s.Q (whole_of s)) (drop (pixels_of s) old) (pixels_of s) ghost.size)) ghost
 
 -- Each whole place goes aside by less than the columns of the tile.
-pub place-narrow :
+pub place_narrow :
     (plan : Plan) (xs : List Place) (i : ℕ) → xs ≡ places_of plan → i < length xs → whole (record_of (place_at xs i)) ≡ true
     → (criterion_of (shape plan)).enough ≡ false → (place_at xs i).slope < plan.columns
-place-narrow plan xs i e l w fails =
+place_narrow plan xs i e l w fails =
     omega (arith, size_of (place_at xs i).leftward (place_at xs i).slope, over_whole columns_total xs i l w, over_part columns_total xs i, ap (over columns_total) e, few_columns (shape plan) fails)

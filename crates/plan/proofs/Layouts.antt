@@ -110,10 +110,10 @@ stands P Q es xs right out =
     }
 
 -- the same where a loop over the records has come to its end
-pub stands-at-end :
+pub stands_at_end :
     (P Q i : ℕ) (es : List Record) (places : List Place) → places_verdict 0 None es ≡ None → i ≡ length es
     → take i places ≡ laid_out P Q 0 (take i es) → Stands P Q es (take (length es) places)
-stands-at-end P Q i es places right end out =
+stands_at_end P Q i es places right end out =
     stands P Q es (take (length es) places) right
     (subst (λ n. take n places ≡ laid_out P Q 0 (take n es)) end out ∙ ap (laid_out P Q 0) (take_all (length es) es (omega arith)))
 

@@ -7,7 +7,7 @@ use Rattle.katz.specs.Made.{Picture, leftward, start, step, steps, made, ghost_t
 use Rattle.plan.specs.declared.places.Place.{Place}
 use Rattle.plan.specs.Laid.{direction_of, record_of, records_of, no_place, place_at}
 use Rattle.plan.specs.Pictures.{picture_of}
-use Rattle.plan.proofs.Shows.{tile-shown}
+use Rattle.plan.proofs.Shows.{tile_shown}
 
 module _ {S : Type 0} (K : Operations S) (P Q : ℕ) where
   -- the steps of the whole places among these
@@ -19,10 +19,10 @@ module _ {S : Type 0} (K : Operations S) (P Q : ℕ) where
     pub ahead : steps_of (drop i xs) (picture_of K P Q cells) ≡ made K P Q (whole_directions (records_of ys))
     pub others : drop (P * Q) cells ≡ drop (P * Q) base
 
-  pub makes-start :
+  pub makes_start :
       (xs ys : List Place) (k₀ : ℕ) (cells : List S) → xs ≡ ys → k₀ ≡ leftward (whole_directions (records_of ys))
       → picture_of K P Q cells ≡ start K k₀ → MadeOf xs ys cells 0 cells
-  makes-start xs ys k₀ cells e is shows = record { ahead = ap₂ steps_of e (shows ∙ ap (start K) is); others = refl }
+  makes_start xs ys k₀ cells e is shows = record { ahead = ap₂ steps_of e (shows ∙ ap (start K) is); others = refl }
 
   module _ (xs ys : List Place) (base : List S) (i : ℕ) (l : i < length xs) (old new : List S) (so_far : MadeOf xs ys base i old) where
     -- a place before others, if it is whole
@@ -34,11 +34,11 @@ module _ {S : Type 0} (K : Operations S) (P Q : ℕ) where
     first : (f : Picture S) (w : Bool) → whole (record_of (place_at xs i)) ≡ w → steps_of (drop i xs) f ≡ joined f w
     first f w e = at_drop_more (λ zs. steps_of zs f) xs i no_place l ∙ ap (joined f) e
 
-    pub makes-whole :
+    pub makes_whole :
         (last : List S) → whole (record_of (place_at xs i)) ≡ true → new ≡ last
         → picture_of K P Q last ≡ step K P Q (direction_of (place_at xs i)) (picture_of K P Q old)
         → drop (P * Q) last ≡ drop (P * Q) old → MadeOf xs ys base (i + 1) new
-    makes-whole last w e shows others =
+    makes_whole last w e shows others =
         record {
           ahead = ap (steps_of (drop (i + 1) xs)) (ap (picture_of K P Q) e ∙ shows) ∙ sym (first (picture_of K P Q old) true w) ∙ so_far.ahead;
           others = ap (drop (P * Q)) e ∙ others ∙ so_far.others;
@@ -50,9 +50,9 @@ module _ {S : Type 0} (K : Operations S) (P Q : ℕ) where
         (record { ahead = sym (first (picture_of K P Q old) false w) ∙ so_far.ahead; others = so_far.others })
 
   -- After all of them the tile stands in the first cells.
-  pub makes-end :
+  pub makes_end :
       (xs ys : List Place) (base : List S) (i : ℕ) (old new : List S) → length xs ≤ i → P * Q ≤ length new → drop (P * Q) base ≡ drop (P * Q) old
       → MadeOf xs ys base i new → new ≡ ghost_tile K P Q (whole_directions (records_of ys)) ++ drop (P * Q) old
-  makes-end xs ys base i old new l room before so_far =
-      tile-shown K P Q (made K P Q (whole_directions (records_of ys))) old new room
+  makes_end xs ys base i old new l room before so_far =
+      tile_shown K P Q (made K P Q (whole_directions (records_of ys))) old new room
       (sym (at_drop_all (λ zs. steps_of zs (picture_of K P Q new)) xs i l) ∙ so_far.ahead) (so_far.others ∙ before)

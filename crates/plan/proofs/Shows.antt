@@ -44,10 +44,10 @@ module _ {S : Type 0} (K : Operations S) (P Q : ℕ) where
       in_tile = and_from _ _ (lt-ltb (c % P) P (column_below P Q c h)) (lt-ltb (c / P) Q (row_below P Q c h))
 
   -- Then the tile stands in the first cells.
-  pub tile-shown :
+  pub tile_shown :
       (f : Picture S) (old new : List S) → P * Q ≤ length new → picture_of K P Q new ≡ f → drop (P * Q) new ≡ drop (P * Q) old
       → new ≡ tile_of K P Q f ++ drop (P * Q) old
-  tile-shown f old new room e others = sym (take-append-drop (P * Q) new) ∙ ap₂ ◌++◌ tile others
+  tile_shown f old new room e others = sym (take-append-drop (P * Q) new) ∙ ap₂ ◌++◌ tile others
     where
       tile : take (P * Q) new ≡ tile_of K P Q f
       tile =

@@ -82,11 +82,11 @@ module _ {S : Type 0} (K : Operations S) (P Q : ℕ) where
     kept_beside k l h h' out = kept k l h h' (and_left (below P (pos k -ℤ d.p)) (below Q (pos l -ℤ d.q)) out)
 
   -- the same for both signs of p
-  step-of-signed :
+  step_of_signed :
       (leftward : Bool) (s q first last back : ℕ) (old : List S) → first ≡ cond leftward 0 s → last ≡ cond leftward (P - s) P
       → back ≡ cond leftward (q * P - s) (q * P + s) → s < P → (leftward ≡ true → s ≤ q * P)
       → StepOf q first last back old (cell_of P (step K P Q (record { p = signed leftward s; q = pos q }) (picture_of K P Q old)))
-  step-of-signed true s q first last back old e₁ e₂ e₃ h far =
+  step_of_signed true s q first last back old e₁ e₂ e₃ h far =
       record {
         inside = omega arith;
         earlier = λ k l a a'. let rows = rows_apart l q P a' in omega arith;
@@ -101,7 +101,7 @@ module _ {S : Type 0} (K : Operations S) (P Q : ℕ) where
       go k l a b (inl o) = kept_above true s q old k l a b o
       go k l a b (inr (inl o)) = absurd (omega arith)
       go k l a b (inr (inr o)) = kept_beside true s q old k l a b (ap (below P) (to_right k s) ∙ le-ltb (k + s) P (omega arith))
-  step-of-signed false s q first last back old e₁ e₂ e₃ h far =
+  step_of_signed false s q first last back old e₁ e₂ e₃ h far =
       record {
         inside = omega arith;
         earlier = λ k l a a'. let rows = rows_apart l q P a' in omega arith;
@@ -125,7 +125,7 @@ module _ {S : Type 0} (K : Operations S) (P Q : ℕ) where
       → back ≡ cond x.leftward (x.q * P - x.slope) (x.q * P + x.slope) → lawful (direction_of x) ≡ true → x.slope < P
       → StepOf x.q first last back old (stepped x old)
   step_of x first last back old e₁ e₂ e₃ law h =
-      step-of-signed x.leftward x.slope x.q first last back old e₁ e₂ e₃ h (back_fits x P law h)
+      step_of_signed x.leftward x.slope x.q first last back old e₁ e₂ e₃ h (back_fits x P law h)
 
   -- The walk --------------------------------------------------------------------------------------------------------------
 
@@ -161,10 +161,10 @@ module _ {S : Type 0} (K : Operations S) (P Q : ℕ) where
 
     module _ (q first last back : ℕ) (s : StepOf q first last back old f) where
       -- in a row, the columns that stay
-      stay-in-row :
+      stay_in_row :
           (l k k' : ℕ) → l < Q → k ≤ k' → k' ≤ P → ((i : ℕ) → k ≤ i → i < k' → (i < first) ⊎ (last ≤ i))
           → DownTo f old (l * P + k') new → DownTo f old (l * P + k) new
-      stay-in-row l k k' h a b out walk = skipped (l * P + k) (l * P + k') (omega arith) same walk
+      stay_in_row l k k' h a b out walk = skipped (l * P + k) (l * P + k') (omega arith) same walk
         where
           same : (c : ℕ) → l * P + k ≤ c → c < l * P + k' → c < P * Q → f c ≡ get_or old c K.zero
           same c a₁ a₂ a₃ =
@@ -174,12 +174,12 @@ module _ {S : Type 0} (K : Operations S) (P Q : ℕ) where
       pub row_begins : (l n : ℕ) → n ≡ l + 1 → l < Q → DownTo f old (n * P) new → DownTo f old (l * P + last) new
       row_begins l n is h walk =
           let e : n * P ≡ l * P + P = let m = ap (λ i. i * P) is in omega arith in
-          stay-in-row l last P h s.inside (omega arith) (λ i a b. inr a) (subst (λ m. DownTo f old m new) e walk)
+          stay_in_row l last P h s.inside (omega arith) (λ i a b. inr a) (subst (λ m. DownTo f old m new) e walk)
 
       pub row_ends : (l k : ℕ) → l < Q → k ≤ first → k ≤ last → DownTo f old (l * P + k) new → DownTo f old (l * P) new
       row_ends l k h a b walk =
           let e : l * P + 0 ≡ l * P = omega arith in
-          subst (λ m. DownTo f old m new) e (stay-in-row l 0 k h (omega arith) (omega (arith, s.inside)) (λ i _ o. inl (omega arith)) walk)
+          subst (λ m. DownTo f old m new) e (stay_in_row l 0 k h (omega arith) (omega (arith, s.inside)) (λ i _ o. inl (omega arith)) walk)
 
       pub rows_end : (l : ℕ) → l ≤ q → l ≤ Q → DownTo f old (l * P) new → DownTo f old 0 new
       rows_end l a b walk = skipped 0 (l * P) (omega arith) same walk
@@ -191,11 +191,11 @@ module _ {S : Type 0} (K : Operations S) (P Q : ℕ) where
               subst (λ n. f n ≡ get_or old n K.zero) (div-add-mod' c P) (s.stays (c % P) (c / P) column (omega arith) (inl (omega arith)))
 
       -- One pixel: it takes from a cell that still holds the old sample.
-      pub pixel-taken :
+      pub pixel_taken :
           (k l j cell : ℕ) (a b v : S) → j ≡ k + 1 → first ≤ k → k < last → q ≤ l → l < Q → P * Q ≤ length new → cell ≡ l * P + k
           → a ≡ get_or new cell a → b ≡ get_or new (cell - back) b → v ≡ minus K a b
           → DownTo f old (l * P + j) new → DownTo f old (l * P + k) (set new cell v)
-      pixel-taken k l j cell a b v next h₁ h₂ h₃ h₄ room is read_a read-b value walk =
+      pixel_taken k l j cell a b v next h₁ h₂ h₃ h₄ room is read_a read-b value walk =
           let inside = cell_below P Q k l (omega (arith, s.inside)) h₄ in
           let here : DownTo f old (l * P + k + 1) new = subst (λ m. DownTo f old m new) (omega arith) walk in
           let at : cell < length new = omega arith in

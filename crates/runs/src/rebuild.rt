@@ -24,10 +24,10 @@ fn run<S: Source>(
     counts: &mut [u8],
     queue: &mut [u16],
 ) -> Result<Finished, Fault>
-    requires lawful { Lawful (shape_of (meaning source.now)) }
-    requires own { shape plan.now ≡ shape_of (meaning source.now) }
+    requires lawful { Lawful (shape_of (S.meaning source.now)) }
+    requires own { shape plan.now ≡ shape_of (S.meaning source.now) }
     requires opened { tile.loaded ≡ 0 }
-    ensures { Rebuilds S.Sample.Kind (meaning source.now) (tables picture.old marks.old sums.old counts.old queue.old) (answer result) (tables picture.new marks.new sums.new counts.new queue.new) }
+    ensures { Rebuilds S.Sample.Kind (S.meaning source.now) (tables picture.old marks.old sums.old counts.old queue.old) (answer result) (tables picture.new marks.new sums.new counts.new queue.new) }
 {
     if let Some(table) = first_short(
         plan,
@@ -66,9 +66,9 @@ pub fn rebuild<S: Source>(
     counts: &mut [u8],
     queue: &mut [u16],
 ) -> Result<Finished, Fault>
-    ensures run { Rebuilds S.Sample.Kind (meaning source.now) (tables picture.old marks.old sums.old counts.old queue.old) (answer result) (tables picture.new marks.new sums.new counts.new queue.new) }
-    ensures exactly { ServesExactly S.Sample.Kind (meaning source.now) (tables picture.old marks.old sums.old counts.old queue.old) (answer result) }
-    ensures plan { Fills (meaning source.now) plan.old plan.new }
+    ensures run { Rebuilds S.Sample.Kind (S.meaning source.now) (tables picture.old marks.old sums.old counts.old queue.old) (answer result) (tables picture.new marks.new sums.new counts.new queue.new) }
+    ensures exactly { ServesExactly S.Sample.Kind (S.meaning source.now) (tables picture.old marks.old sums.old counts.old queue.old) (answer result) }
+    ensures plan { Fills (S.meaning source.now) plan.old plan.new }
     ensures law { Law S.Sample.Kind }
 {
     let tile = open(source, plan)?;

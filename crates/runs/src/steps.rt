@@ -14,7 +14,7 @@ pub(crate) fn load_all<S: Source>(
     plan: &Plan,
     sums: &mut [S::Sample],
 ) -> Result<Loading, Refused<Loading>>
-    ensures { LoadsAll S.Sample.Kind (meaning source.now) plan.now tile sums.old result sums.new }
+    ensures { LoadsAll S.Sample.Kind (S.meaning source.now) plan.now tile sums.old result sums.new }
 {
     let mut tile = tile;
     for i in 0..plan.count() {

@@ -67,10 +67,10 @@ less_left i rest h =
     let p : 16 ^ (i + 1) ≡ 16 ^ i * 16 = ap (λ j. 16 ^ j) e ∙ pow-suc 16 i in
     omega arith
 
-pub digit-written :
+pub digit_written :
     (i rest b : ℕ) (out : List ℕ) → rest < 16 ^ (i + 1) → i < length out → b ≡ hex_byte (rest % 16)
     → hex_text i (rest / 16) ++ drop i (set out i b) ≡ hex_text (i + 1) rest ++ drop (i + 1) out
-digit-written i rest b out h inside is =
+digit_written i rest b out h inside is =
     let e : i + 1 ≡ suc i = omega arith in
     ap (λ s. hex_text i (rest / 16) ++ s) (drop-set out i b inside ∙ (λ j. is j ∷ drop (i + 1) out))
     ∙ sym (append_assoc (hex_text i (rest / 16)) (hex_byte (rest % 16) ∷ []) (drop (i + 1) out))

@@ -1,11 +1,10 @@
 -- The numbers of sum words, XOR words and pairs of one of each; codes and their reading for every kind that has them.
-use Rattle.std.specs.Prelude.{◌≡◌, ℕ, ◌+◌, ◌*◌, ◌/◌, ◌%◌, ◌^◌, ◌<◌, ◌≤◌, cond, List, ◌++◌, length, drop, Some, None, Option, refl}
-use Rattle.std.proofs.Common.{mod-eq_of_lt, arith, lit<, lit≤}
-use Rattle.samples.specs.declared.coded.Coded.{Ghosts as Codes}
+use Rattle.std.specs.Prelude.{ℕ, ◌+◌, ◌*◌, ◌/◌, ◌^◌}
+use Rattle.std.proofs.Common.{arith, lit<, lit≤}
 use Rattle.samples.specs.declared.words.Pair.{Pair}
 use Rattle.samples.specs.declared.words.SumWord.{SumWord}
 use Rattle.samples.specs.declared.words.XorWord.{XorWord}
-use Rattle.samples.specs.Codes.{Coding, hex_text, hex_number, is_code}
+use Rattle.samples.specs.Codes.{Coding}
 use Rattle.samples.specs.Pairs.{pair_of}
 use Rattle.samples.specs.Words.{sum_of, sum_same, xor_of, xor_same}
 

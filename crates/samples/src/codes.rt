@@ -126,7 +126,7 @@ fn hex_value(b: u8) -> u8
 
 // Writes the code of a sample into the first cells, and answers its length; none where there are too few cells.
 pub fn write_code<K: Coded>(sample: K, out: &mut [u8]) -> Option<usize>
-    ensures { Written (code K.Coded sample) out.old result out.new }
+    ensures { Written (code K.Coded.own sample) out.old result out.new }
 {
     let width = K::digits();
     if out.len() < width {
@@ -142,8 +142,8 @@ pub fn write_code<K: Coded>(sample: K, out: &mut [u8]) -> Option<usize>
 
 // The sample that a word is the code of; none where it is no code.
 pub fn read_code<K: Coded>(word: &[u8]) -> Option<K>
-    ensures value { result ≡ read_code K.Coded word.now }
-    ensures law { OneToOne K.Coded }
+    ensures value { result ≡ read_code K.Coded.own word.now }
+    ensures law { OneToOne K.Coded.own }
 {
     if word.len() != K::digits() {
         return None;

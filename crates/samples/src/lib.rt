@@ -1,4 +1,6 @@
 // Kinds of sample: abelian groups whose equality can be tested, each with a chosen sample that is not zero, the spark.
+#![tactic(auto)]
+
 pub mod coded;
 pub mod codes;
 pub mod impls;
@@ -13,7 +15,7 @@ pub use words::{Pair, SumWord, XorWord};
 
 // The difference of two samples.
 pub fn minus<K: Kind>(a: K, b: K) -> K
-    ensures { result ≡ plus a (inverse b) }
+    ensures { result ≡ K.plus a (K.inverse b) }
 {
     a.add(b.negate())
 }

@@ -15,10 +15,10 @@ module _ {S : Type 0} (m : Meaning S) (i : ℕ) (records : List Record) where
   abbrev entries : List (Place S) → List Record
   entries xs = map (λ x. x.entry) xs
 
-  pub one-asked :
+  pub one_asked :
       (e : Record) → served e ≡ asked_place m i → i < length records → take i records ≡ entries (take i m.places)
       → take (i + 1) (set records i e) ≡ entries (take (i + 1) m.places)
-  one-asked e a room so_far =
+  one_asked e a room so_far =
       let found = place_found m i e a in
       take_more_set records i e room ∙ (λ j. so_far j ++ (found.same j ∷ [])) ∙ sym (map_more (λ x. x.entry) m.places i no_place found.inside)
 

@@ -72,9 +72,9 @@ module _ (P Q : ℕ) (d : Direction) (picture : List SumWord) where
       pub bins_counted : n ≡ bins P Q d
       bins_counted = let a : served n ≡ served (bins P Q d) = ap (λ x. x.answer) (e ∙ served_all) in cc
 
-      pub pixels-counted :
+      pub pixels_counted :
           ((c : ℕ) → c < P * Q → (get_or picture c sum_zero).value ≡ 1) → (b : ℕ) → b < bins P Q d → (get_or after b sum_zero).value ≡ pixels_in P Q d b
-      pixels-counted ones b h =
+      pixels_counted ones b h =
           let few : P * Q < 2 ^ 16 = let a = side_most P p in let c = side_most Q q in omega (arith, mul-le P Q 64 64 a.1 c.1) in
           let inside : b < length (projection sum_words P Q picture d) = subst (λ k. b < k) (sym (length-map-range_with_len (bin_sum sum_words P Q picture d) 0 (bins P Q d))) h in
           ap (λ x. (get_or x.sums b sum_zero).value) (e ∙ served_all)

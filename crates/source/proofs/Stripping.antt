@@ -77,10 +77,10 @@ module _ (m : Meaning SumWord) (i b : ℕ) (inside : i < length m.places) (here 
       let z : ◌≡◌ {A = ℕ} 0 1 = cc in
       omega arith
 
-  pub mean-there :
+  pub mean_there :
       (sum pixels : SumWord) (counts : List SumWord) (r : ℕ) → served sum ≡ asked_bin sum_words m i b → pixels ≡ get_or counts b sum_zero
       → (get_or counts b sum_zero).value ≡ pixels_in m.P m.Q (place_at m i).entry.direction b → r ≡ mean sum.value pixels.value → r ≡ mean_at m i b
-  mean-there sum pixels counts r a read count is =
+  mean_there sum pixels counts r a read count is =
       let s : served sum ≡ served (get_or (place_at m i).sums b sum_zero) = a ∙ bin_there sum_words m i b inside here within in
       let same : sum ≡ get_or (place_at m i).sums b sum_zero = cc in
       is ∙ (λ j. mean (same j).value ((ap (λ w. w.value) read ∙ count) j))
@@ -126,10 +126,10 @@ module _ {m : Meaning SumWord} {i P Q : ℕ} {e : Record} (h : Known m i P Q e) 
     pub bins_known : n ≡ bins_at m i
     bins_known = size ∙ (λ j. bins (h.columns j) (h.rows j) (is.same j).direction)
 
-    pub counts-known :
+    pub counts_known :
         (counts : List SumWord) → ((b : ℕ) → b < bins P Q e.direction → (get_or counts b sum_zero).value ≡ pixels_in P Q e.direction b)
         → (b : ℕ) → b < n → (get_or counts b sum_zero).value ≡ pixels_in m.P m.Q (place_at m i).entry.direction b
-    counts-known counts count b l = count b (subst (λ k. b < k) size l) ∙ (λ j. pixels_in (h.columns j) (h.rows j) (is.same j).direction b)
+    counts_known counts count b l = count b (subst (λ k. b < k) size l) ∙ (λ j. pixels_in (h.columns j) (h.rows j) (is.same j).direction b)
 
     module _ (none : e.cause ≡ 0) (cells : List ℕ) where
       pub refused_short : length cells < n → stripped (refuses (refusal 21 n 0 0)) cells ≡ stripping m i cells

@@ -9,7 +9,7 @@ use plan::lay::is_side;
 
 // The plan of a source, or why the source is not lawful.
 pub fn plan_of<S: Source>(source: &S) -> Result<Plan, Fault>
-    ensures { Plans (shape_of (meaning source.now)) result }
+    ensures { Plans (shape_of (S.meaning source.now)) result }
 {
     let sizes = source.sizes();
     let count = sizes.places;

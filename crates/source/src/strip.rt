@@ -60,11 +60,11 @@ fn write_means<S: Source<Sample = SumWord>>(
     counts: &[SumWord],
     out: &mut [u16],
 )
-    requires place { (place < length (meaning source.now).places) × (whole (place_at (meaning source.now) place).entry ≡ true) }
-    requires bins { bins ≡ bins_at (meaning source.now) place }
-    requires counts { (b : ℕ) → b < bins → (slice_index_or counts.now b sum_zero).value ≡ pixels_in (meaning source.now).P (meaning source.now).Q (place_at (meaning source.now) place).entry.direction b }
+    requires place { (place < length (S.meaning source.now).places) × (whole (place_at (S.meaning source.now) place).entry ≡ true) }
+    requires bins { bins ≡ bins_at (S.meaning source.now) place }
+    requires counts { (b : ℕ) → b < bins → (slice_index_or counts.now b sum_zero).value ≡ pixels_in (S.meaning source.now).P (S.meaning source.now).Q (place_at (S.meaning source.now) place).entry.direction b }
     requires room { (bins ≤ length counts.now) × (bins ≤ length out.old) }
-    ensures { out.new ≡ map (mean_at (meaning source.now) place) (range_with_len 0 bins) ++ drop bins out.old }
+    ensures { out.new ≡ map (mean_at (S.meaning source.now) place) (range_with_len 0 bins) ++ drop bins out.old }
 {
     for b in 0..bins {
         let Ok(sum) = source.bin(place, b) else {
@@ -81,7 +81,7 @@ pub fn strip<S: Source<Sample = SumWord>>(
     place: usize,
     out: &mut [u16],
 ) -> Result<usize, Fault>
-    ensures { stripped (outcome result) out.new ≡ stripping (meaning source.now) place out.old }
+    ensures { stripped (outcome result) out.new ≡ stripping (S.meaning source.now) place out.old }
 {
     let plan = plan_of(source)?;
     let record = source.place(place)?;

@@ -15,8 +15,8 @@ use source::Source;
 
 // Bin b of a place, zero where it is lost.
 fn bin_or_zero<S: Source>(source: &S, i: usize, b: usize) -> S::Sample
-    requires { (i < length (meaning source.now).places) × (b < bins_at (meaning source.now) i) }
-    ensures { result ≡ bin_value S.Sample.Kind (meaning source.now) i b }
+    requires { (i < length (S.meaning source.now).places) × (b < bins_at (S.meaning source.now) i) }
+    ensures { result ≡ bin_value S.Sample.Kind (S.meaning source.now) i b }
 {
     match source.bin(i, b) {
         Ok(x) => x,
@@ -26,9 +26,9 @@ fn bin_or_zero<S: Source>(source: &S, i: usize, b: usize) -> S::Sample
 
 // Writes the bins of a place at their positions.
 fn write_place<S: Source>(source: &S, i: usize, from: usize, bins: usize, sums: &mut [S::Sample])
-    requires place { (i < length (meaning source.now).places) × (bins ≡ bins_at (meaning source.now) i) }
+    requires place { (i < length (S.meaning source.now).places) × (bins ≡ bins_at (S.meaning source.now) i) }
     requires room { from + bins ≤ length sums.old }
-    ensures { sums.new ≡ written from bins (bin_value S.Sample.Kind (meaning source.now) i) sums.old }
+    ensures { sums.new ≡ written from bins (bin_value S.Sample.Kind (S.meaning source.now) i) sums.old }
 {
     for b in 0..bins {
         sums[from + b] = bin_or_zero(source, i, b);
@@ -62,7 +62,7 @@ fn is_same(one: Record, other: Record) -> bool
 // Whether a source has the plan's sizes, and the plan's direction and cause at place i.
 fn fits_plan<S: Source>(source: &S, plan: &Plan, i: usize) -> bool
     requires { i < length (places_of plan.now) }
-    ensures { result ≡ fits (shape plan.now) (meaning source.now) i }
+    ensures { result ≡ fits (shape plan.now) (S.meaning source.now) i }
 {
     let sizes = source.sizes();
     let places = plan.places();
@@ -86,7 +86,7 @@ impl Loading {
         plan: &Plan,
         sums: &mut [S::Sample],
     ) -> Result<Loading, Refused<Loading>>
-        ensures { Loads S.Sample.Kind plan.now (meaning source.now) self sums.old result sums.new }
+        ensures { Loads S.Sample.Kind plan.now (S.meaning source.now) self sums.old result sums.new }
     {
         if sums.len() < plan.total() {
             return Err(Refused {

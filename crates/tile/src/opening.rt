@@ -8,7 +8,7 @@ use source::{Source, plan_of};
 
 // Fills the plan, whatever it held; refused, it leaves the plan as it was.
 pub fn open<S: Source>(source: &S, plan: &mut Plan) -> Result<Loading, Fault>
-    ensures { Opens (meaning source.now) plan.old result plan.new }
+    ensures { Opens (S.meaning source.now) plan.old result plan.new }
 {
     *plan = plan_of(source)?;
     Ok(Loading { loaded: 0 })

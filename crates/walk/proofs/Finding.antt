@@ -68,9 +68,9 @@ module _ (plan : Plan) (marks : List ℕ) (at i b : ℕ) (t : Stands plan at i b
 
   -- what the code holds of the place
   module _ (x : Place) (place : x ≡ own) where
-    pub lone-in-whole :
+    pub lone_in_whole :
         (P Q : ℕ) (r : Option Pixel) → P ≡ plan.columns → Q ≡ plan.rows → x.cause ≡ 0 → r ≡ alone P Q (miss P Q x b marks) → r ≡ lone (shape plan) marks at
-    lone-in-whole P Q r columns rows e is =
+    lone_in_whole P Q r columns rows e is =
         is ∙ (λ j. alone (columns j) (rows j) (miss (columns j) (rows j) (place j) b marks))
         ∙ sym (there ∙ alone_same plan.columns plan.rows _ _ (λ c l.
         ap (λ t. t && eqb (get_or marks c 0) 0)

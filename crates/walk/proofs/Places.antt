@@ -35,10 +35,10 @@ module _ (plan : Plan) (i : ℕ) (l : i < length (places_of plan)) (P Q : ℕ) (
       subst (λ z. LaidWithin P Q z n) (sym place) (subst (λ m. LaidWithin P m (nth (places_of plan) i) n) (sym rows)
       (subst (λ m. LaidWithin m plan.rows (nth (places_of plan) i) n) (sym columns) own))
 
-  pub one-place-more :
+  pub one_place_more :
       (old counts new : List ℕ) → counts ≡ filled (starts i) pixels_at old → new ≡ written x.start x.bins (pixels_of_bin P Q x) counts
       → new ≡ filled (starts (i + 1)) pixels_at old
-  one-place-more old counts new before is =
+  one_place_more old counts new before is =
       is
       ∙ (λ j. written (place j).start (place j).bins (pixels_of_bin (columns j) (rows j) (place j)) (before j))
       ∙ ap (λ n. written own.start own.bins (pixels_of_bin plan.columns plan.rows own) (filled n pixels_at old)) (sym (start_is plan i l))

@@ -27,8 +27,8 @@ pub length-refusal :
     → length (refusal_text r) ≡ 14 + length (decimal r.number) + length (decimal r.first) + length (decimal r.second) + length (decimal r.third)
 length-refusal r = simp length-append (omega arith)
 
-pub refusal-pieces :
+pub refusal_pieces :
     (r : Refusal)
     → text "(refused " ++ decimal r.number ++ text " " ++ decimal r.first ++ text " " ++ decimal r.second ++ text " " ++ decimal r.third ++ (41 ∷ (10 ∷ []))
     ≡ refusal_text r
-refusal-pieces r = simp append_assoc
+refusal_pieces r = simp append_assoc

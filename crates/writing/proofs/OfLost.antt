@@ -13,9 +13,9 @@ lost_line i c bs = text "(lost " ++ (decimal i ++ (32 ∷ (decimal c ++ (text ")
 line_on : (i c : ℕ) (bs : List ℕ) → lost_line i c bs ≡ lost_line i c [] ++ bs
 line_on i c bs = sym (simp append_assoc)
 
-pub line-pieces :
+pub line_pieces :
     (i c : ℕ) → text "(lost " ++ decimal i ++ text " " ++ decimal c ++ (41 ∷ (10 ∷ [])) ≡ lost_line i c []
-line-pieces i c = simp append_assoc
+line_pieces i c = simp append_assoc
 
 pub length-line : (i c : ℕ) → length (lost_line i c []) ≡ 9 + length (decimal i) + length (decimal c)
 length-line i c = simp length-append (omega arith)

@@ -49,13 +49,13 @@ pub writes_same : {s t : List ℕ} {from to : ℕ} {out after : List ℕ} → s 
 writes_same {from} {to} {out} {after} e w = subst (λ u. Writes u from out to after) e w
 
 -- a text that was written into just as many cells
-pub fills-part :
+pub fills_part :
     (text part after : List ℕ) (o : Option ℕ) → Written text part o after → length part ≡ length text → after ≡ text
-fills-part text part after (Some n) w e =
+fills_part text part after (Some n) w e =
     w.1 ∙ ap (λ l. text ++ l) (drop_all (length text) part (omega arith)) ∙ append-nil text
-fills-part text part after None w e = absurd (omega (arith, w.0))
+fills_part text part after None w e = absurd (omega (arith, w.0))
 
-pub put-part :
+pub put_part :
     (from end : ℕ) (out text part : List ℕ) → end ≡ from + length text → part ≡ text
     → put_mid from (end - from) out part ≡ spliced from text out
-put-part from end out text part e p = ap (λ j. put_mid from (j - from) out part) e ∙ put_cells from out text part p
+put_part from end out text part e p = ap (λ j. put_mid from (j - from) out part) e ∙ put_cells from out text part p

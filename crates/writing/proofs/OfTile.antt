@@ -10,10 +10,10 @@ use Rattle.writing.specs.Splices.{filling, listing}
 use Rattle.writing.proofs.OfLost.{lost_on}
 use Rattle.writing.proofs.OfTexts.{rows_on, length-rows}
 
-pub head-pieces :
+pub head_pieces :
     (word name : List ℕ) (P Q : ℕ)
     → text "(" ++ word ++ text " " ++ name ++ text " " ++ decimal P ++ text " " ++ decimal Q ++ (41 ∷ (10 ∷ [])) ≡ head_text word name P Q []
-head-pieces word name P Q = simp append_assoc
+head_pieces word name P Q = simp append_assoc
 
 pub length-head :
     (word name : List ℕ) (P Q : ℕ)
@@ -32,9 +32,9 @@ pub all_there : {S : Type 0} (P Q : ℕ) (picture : List S) (t out : List ℕ) �
 all_there P Q picture t out h = sym (cond-false (ltb (length picture) (P * Q)) _ _ (le-ltb (length picture) (P * Q) h))
 
 module _ {S : Type 0} (K : Operations S) (C : Codes S) (word name : List ℕ) (P Q : ℕ) (records : List Record) (picture : List S) (named : name ≡ C.name) where
-  pub tile-pieces :
+  pub tile_pieces :
       head_text word name P Q [] ++ lost_text 0 records [] ++ rows_text K C P picture 0 Q [] ++ end_text ≡ tile_text K C word P Q records picture
-  tile-pieces =
+  tile_pieces =
       let rows = rows_text K C P picture 0 Q [] in
       append_assoc (head_text word name P Q [] ++ lost_text 0 records []) rows end_text
       ∙ append_assoc (head_text word name P Q []) (lost_text 0 records []) (rows ++ end_text)
@@ -47,7 +47,7 @@ module _ {S : Type 0} (K : Operations S) (C : Codes S) (word name : List ℕ) (P
       length (tile_text K C word P Q records picture)
       ≡ 6 + length word + length name + length (decimal P) + length (decimal Q) + length (lost_text 0 records []) + Q * (P * suc C.width + 6) + 6
   length-tile =
-      ap length (sym tile-pieces)
+      ap length (sym tile_pieces)
       ∙ length-append (head_text word name P Q [] ++ lost_text 0 records [] ++ rows_text K C P picture 0 Q []) end_text
       ∙ omega (
         arith,

@@ -22,7 +22,7 @@ fn write_tile<K: Coded>(
 ) -> Result<usize, Fault>
     requires size { (side_ok columns ≡ true) × (side_ok rows ≡ true) }
     requires short { (length word.now ≤ 255) × ((length K.Coded.name ≤ 255) × (length records.now ≤ most_places)) }
-    ensures { (outcome result, out.new) ≡ listing columns rows picture.now (tile_text K.Kind K.Coded word.now columns rows records.now picture.now) out.old }
+    ensures { (outcome result, out.new) ≡ listing columns rows picture.now (tile_text K.Kind K.Coded.own word.now columns rows records.now picture.now) out.old }
 {
     if picture.len() < columns * rows {
         return Err(Fault::ShortTable(Table::Picture));
@@ -50,7 +50,7 @@ pub fn write_picture<K: Coded>(
 ) -> Result<usize, Fault>
     requires size { (side_ok columns ≡ true) × (side_ok rows ≡ true) }
     requires name { length K.Coded.name ≤ 255 }
-    ensures { (outcome result, out.new) ≡ listing columns rows picture.now (picture_text K.Kind K.Coded (record { P = columns; Q = rows; records = [] }) picture.now) out.old }
+    ensures { (outcome result, out.new) ≡ listing columns rows picture.now (picture_text K.Kind K.Coded.own (record { P = columns; Q = rows; records = [] }) picture.now) out.old }
 {
     write_tile(out, b"picture", columns, rows, &[], picture)
 }
@@ -65,7 +65,7 @@ pub fn write_ghost<K: Coded>(
 ) -> Result<usize, Fault>
     requires size { (side_ok columns ≡ true) × ((side_ok rows ≡ true) × (length records.now ≤ most_places)) }
     requires name { length K.Coded.name ≤ 255 }
-    ensures { (outcome result, out.new) ≡ listing columns rows picture.now (ghost_text K.Kind K.Coded (record { P = columns; Q = rows; records = records.now }) picture.now) out.old }
+    ensures { (outcome result, out.new) ≡ listing columns rows picture.now (ghost_text K.Kind K.Coded.own (record { P = columns; Q = rows; records = records.now }) picture.now) out.old }
 {
     write_tile(out, b"ghost", columns, rows, records, picture)
 }

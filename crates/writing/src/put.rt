@@ -18,7 +18,7 @@ pub(crate) fn put(out: &mut [u8], at: usize, text: &[u8]) -> usize
 // The code of a sample.
 pub(crate) fn put_code<K: Coded>(out: &mut [u8], at: usize, sample: K) -> usize
     requires { at + K.Coded.width ≤ length out.old }
-    ensures { Writes (code K.Coded sample) at out.old result out.new }
+    ensures { Writes (code K.Coded.own sample) at out.old result out.new }
 {
     let end = at + K::digits();
     let _ = write_code(sample, &mut out[at..end]);

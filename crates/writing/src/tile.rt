@@ -35,7 +35,7 @@ pub(crate) fn put_head(
 // The codes of samples, each after a space.
 fn put_codes<K: Coded>(out: &mut [u8], at: usize, samples: &[K]) -> usize
     requires { at + length samples.now * suc K.Coded.width ≤ length out.old }
-    ensures { Writes (codes_text K.Coded samples.now []) at out.old result out.new }
+    ensures { Writes (codes_text K.Coded.own samples.now []) at out.old result out.new }
 {
     let mut end = at;
     for sample in samples {
@@ -48,7 +48,7 @@ fn put_codes<K: Coded>(out: &mut [u8], at: usize, samples: &[K]) -> usize
 // A line of a row of samples.
 fn put_row<K: Coded>(out: &mut [u8], at: usize, samples: &[K]) -> usize
     requires { at + (length samples.now * suc K.Coded.width + 6) ≤ length out.old }
-    ensures { Writes (text "(row" ++ codes_text K.Coded samples.now (text ")" ++ (10 ∷ []))) at out.old result out.new }
+    ensures { Writes (text "(row" ++ codes_text K.Coded.own samples.now (text ")" ++ (10 ∷ []))) at out.old result out.new }
 {
     let mut end = put(out, at, b"(row");
     end = put_codes(out, end, samples);
@@ -75,7 +75,7 @@ pub(crate) fn put_rows<K: Coded>(
 ) -> usize
     requires size { columns * rows ≤ length picture.now }
     requires room { at + rows * (columns * suc K.Coded.width + 6) ≤ length out.old }
-    ensures { Writes (rows_text K.Kind K.Coded columns picture.now 0 rows []) at out.old result out.new }
+    ensures { Writes (rows_text K.Kind K.Coded.own columns picture.now 0 rows []) at out.old result out.new }
 {
     let mut end = at;
     for l in 0..rows {

@@ -5,14 +5,14 @@ use Rattle.bracket.proofs.OfNumerals.{read_more, digits_more, digits_none, digit
 use Rattle.bracket.proofs.number.magnitude.Goals as goal
 use Rattle.bracket.proofs.number.magnitude.Goals.{else-digits-gt1-via-then-digits-gt1+else-digits-eq48, else-digits-gt1-via-else-digits-gt1}
 
-pub returns-then-not-is-ascii-digit : goal.returns-then-not-is-ascii-digit
-returns-then-not-is-ascii-digit c = sym (cond-false (plain c.args.digits.now) _ _ (digits_none c.args.digits.now c.loop-d.d-index c.loop-d-test.true (sym c.if-not-is-ascii-digit.ensures.value) c.loop-d.invariant.2))
+pub returns-then-not-is_ascii_digit : goal.returns-then-not-is_ascii_digit
+returns-then-not-is_ascii_digit c = sym (cond-false (plain c.args.digits.now) _ _ (digits_none c.args.digits.now c.loop-d.d-index c.loop-d-test.true (sym c.if-not-is_ascii_digit.ensures.value) c.loop-d.invariant.2))
 
 pub loop-d-preserved : goal.loop-d-preserved
 loop-d-preserved c = (
   omega (arith, c.min-n.ensures),
   read_more c.args.digits.now c.loop-d.d-index c.loop-d.n _ c.loop-d-test.true (omega (arith, c.min-n.ensures, c.from.ensures)) c.loop-d.invariant.1,
-  digits_more c.args.digits.now c.loop-d.d-index c.loop-d-test.true (sym c.if-not-is-ascii-digit.ensures.value) c.loop-d.invariant.2,
+  digits_more c.args.digits.now c.loop-d.d-index c.loop-d-test.true (sym c.if-not-is_ascii_digit.ensures.value) c.loop-d.invariant.2,
 )
 
 pub returns : goal.returns

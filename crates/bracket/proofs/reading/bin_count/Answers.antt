@@ -17,22 +17,22 @@ few P Q across down d p q l a b =
     let high = leb-true Q most_side (and_parts (leb 1 Q) (leb Q most_side) q).1 in
     omega (arith, mul-le (P - 1) down 63 7 (omega arith) (omega arith), mul-le (Q - 1) across 63 7 (omega arith) (omega arith))
 
-pub overflow-add-result : goal.overflow-add-result
-overflow-add-result c =
-    let s : c.unsigned-abs-across.result ≡ nat_abs c.args.direction.p = search rules in
-    let q : c.unsigned-abs-down.result ≡ nat_abs c.args.direction.q = search rules in
+pub overflow_add-result : goal.overflow_add-result
+overflow_add-result c =
+    let s : c.unsigned_abs-across.result ≡ nat_abs c.args.direction.p = search rules in
+    let q : c.unsigned_abs-down.result ≡ nat_abs c.args.direction.q = search rules in
     omega (arith, few c.args.columns c.args.rows _ _ c.args.direction c.requires.0 c.requires.1.0 c.requires.1.1 s q)
 
-pub overflow-add-result-2 : goal.overflow-add-result-2
-overflow-add-result-2 c =
-    let s : c.unsigned-abs-across.result ≡ nat_abs c.args.direction.p = search rules in
-    let q : c.unsigned-abs-down.result ≡ nat_abs c.args.direction.q = search rules in
+pub overflow_add-result-2 : goal.overflow_add-result-2
+overflow_add-result-2 c =
+    let s : c.unsigned_abs-across.result ≡ nat_abs c.args.direction.p = search rules in
+    let q : c.unsigned_abs-down.result ≡ nat_abs c.args.direction.q = search rules in
     omega (arith, few c.args.columns c.args.rows _ _ c.args.direction c.requires.0 c.requires.1.0 c.requires.1.1 s q)
 
 pub returns : goal.returns
 returns c =
-    let s : c.unsigned-abs-across.result ≡ nat_abs c.args.direction.p = search rules in
-    let q : c.unsigned-abs-down.result ≡ nat_abs c.args.direction.q = search rules in
+    let s : c.unsigned_abs-across.result ≡ nat_abs c.args.direction.p = search rules in
+    let q : c.unsigned_abs-down.result ≡ nat_abs c.args.direction.q = search rules in
     record {
       value = search rules;
       small = omega (arith, few c.args.columns c.args.rows _ _ c.args.direction c.requires.0 c.requires.1.0 c.requires.1.1 s q);

@@ -1,5 +1,5 @@
 use Rattle.std.proofs.Common.{◌-◌, arith, rules}
-use Rattle.plan.proofs.Taking.{step_of, none_done, row_begins, row_ends, rows_end, pixel-taken, stepped, walk_shows}
+use Rattle.plan.proofs.Taking.{step_of, none_done, row_begins, row_ends, rows_end, pixel_taken, stepped, walk_shows}
 use Rattle.plan.proofs.ghosts.take_off.Goals as goal
 
 pub loop-l-init : goal.loop-l-init
@@ -21,20 +21,20 @@ loop-l-preserved g c =
     (c.loop-k.invariant f old s
     (row_begins g.K.Kind P Q f old c.loop-l.picture q span.0 span.1 span.2 s l c.loop-l.l (omega arith) (omega arith) (c.loop-l.invariant f s)))
 
-pub overflow-sub-from : goal.overflow-sub-from
-overflow-sub-from g c =
+pub overflow_sub-from : goal.overflow_sub-from
+overflow_sub-from g c =
     let span = c.span-first.result in
     let e = c.span-first.ensures in
     let s = step_of g.K.Kind c.args.columns c.args.rows c.args.place span.0 span.1 span.2 c.args.picture.now e.first e.last e.back c.requires.direction c.requires.narrow in
-    omega (arith, s.earlier (c.loop-k.k - 1) (c.loop-l.l - 1) (omega arith) (omega arith), c.cell-of-cell.ensures.value)
+    omega (arith, s.earlier (c.loop-k.k - 1) (c.loop-l.l - 1) (omega arith) (omega arith), c.cell_of-cell.ensures.value)
 
 pub loop-k-preserved : goal.loop-k-preserved
 loop-k-preserved g c =
     let span = c.span-first.result in
     λ f old s walk.
-    pixel-taken g.K.Kind c.args.columns c.args.rows f old c.loop-k.picture c.args.place.q span.0 span.1 span.2 s
-    (c.loop-k.k - 1) (c.loop-l.l - 1) c.loop-k.k c.cell-of-cell.result _ _ _ (omega arith) (omega arith) (omega arith) (omega arith) (omega arith) (omega arith)
-    c.cell-of-cell.ensures.value c.index-picture-cell.is c.index-picture-from.is (search rules) (c.loop-k.invariant f old s walk)
+    pixel_taken g.K.Kind c.args.columns c.args.rows f old c.loop-k.picture c.args.place.q span.0 span.1 span.2 s
+    (c.loop-k.k - 1) (c.loop-l.l - 1) c.loop-k.k c.cell_of-cell.result _ _ _ (omega arith) (omega arith) (omega arith) (omega arith) (omega arith) (omega arith)
+    c.cell_of-cell.ensures.value c.index-picture-cell.is c.index-picture-from.is (search rules) (c.loop-k.invariant f old s walk)
 
 pub returns : goal.returns
 returns g c =

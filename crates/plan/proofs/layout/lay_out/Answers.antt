@@ -6,7 +6,7 @@ use Rattle.mojette.specs.Meaning.{verdict}
 use Rattle.plan.specs.Laid.{laid, shape_from}
 use Rattle.plan.specs.Layouts.{laid_out}
 use Rattle.plan.proofs.Cells.{side_most}
-use Rattle.plan.proofs.Layouts.{lawful_at, bins_more, out_more, few_bins, stands-at-end, by_places}
+use Rattle.plan.proofs.Layouts.{lawful_at, bins_more, out_more, few_bins, stands_at_end, by_places}
 use Rattle.plan.proofs.Verdicts.{no_record}
 use Rattle.plan.proofs.layout.lay_out.Goals as goal
 
@@ -22,8 +22,8 @@ size_few c =
     subst (λ n. n ≤ 883) (sym (size_is c))
     (few_bins c.args.columns c.args.rows c.requires.size.0 c.requires.size.1 (get_or c.args.records.now c.loop-i.i no_record).direction (lawful_at 0 _ c.args.records.now c.requires.places c.loop-i.i c.loop-i-test.true))
 
-pub overflow-add-total : goal.overflow-add-total
-overflow-add-total c = let few = size_few c in let v = c.loop-i.invariant in omega (arith, c.requires.number.1)
+pub overflow_add-total : goal.overflow_add-total
+overflow_add-total c = let few = size_few c in let v = c.loop-i.invariant in omega (arith, c.requires.number.1)
 
 pub loop-i-init : goal.loop-i-init
 loop-i-init c = (refl, refl, lit≤ tt, lit≤ tt, refl)
@@ -48,14 +48,14 @@ loop-i-preserved c =
       length-set c.loop-i.places i c.lay-place.result ∙ v.4,
     )
 
-pub invariant-of-result : goal.invariant-of-result
-invariant-of-result c =
+pub invariant_of-result : goal.invariant_of-result
+invariant_of-result c =
     let P = c.args.columns in
     let Q = c.args.rows in
     let es = c.args.records.now in
     let v = c.loop-i.invariant in
     let end : c.loop-i.i ≡ length es = omega arith in
-    let all = stands-at-end P Q c.loop-i.i es c.loop-i.places c.requires.places end v.0 in
+    let all = stands_at_end P Q c.loop-i.i es c.loop-i.places c.requires.places end v.0 in
     let total : c.loop-i.total ≡ all_bins P Q es = v.1 ∙ ap (all_bins P Q) (ap (λ n. take n es) end ∙ take_all (length es) es (omega arith)) in
     let lawful : is_some (verdict (shape_from P Q (take (length es) c.loop-i.places))) ≡ false =
     ap (λ xs. is_some (verdict (record { P = P; Q = Q; records = xs }))) all.same ∙ ap is_some (by_places P Q es c.requires.size.0 c.requires.size.1 c.requires.number.0 c.requires.number.1 ∙ c.requires.places) in
@@ -70,5 +70,5 @@ returns c =
     let P = c.args.columns in
     let Q = c.args.rows in
     let end : c.loop-i.i ≡ length c.args.records.now = omega arith in
-    let all = stands-at-end P Q c.loop-i.i c.args.records.now c.loop-i.places c.requires.places end c.loop-i.invariant.0 in
+    let all = stands_at_end P Q c.loop-i.i c.args.records.now c.loop-i.places c.requires.places end c.loop-i.invariant.0 in
     λ i. record { P = P; Q = Q; records = all.same i }

@@ -8,8 +8,8 @@ loop-i-preserved g c =
     let zero = g.K.Kind.zero in
     let v = c.loop-i.invariant in
     let more = fill_by_more (λ _. zero) c.loop-i.cells c.loop-i.i zero (omega arith) v.0 in (
-      λ b h. ap (λ z. get_or (set c.loop-i.cells c.loop-i.i z) b zero) c.zero-sample.ensures ∙ more b h,
-      drop-set-lt c.args.n c.loop-i.cells c.loop-i.i c.zero-sample.result (omega arith) ∙ v.1,
+      λ b h. ap (λ z. get_or (set c.loop-i.cells c.loop-i.i z) b zero) c.zero_sample.ensures ∙ more b h,
+      drop-set-lt c.args.n c.loop-i.cells c.loop-i.i c.zero_sample.result (omega arith) ∙ v.1,
     )
 
 pub returns : goal.returns

@@ -3,12 +3,12 @@ use Rattle.mojette.specs.declared.direction.Direction.{Direction}
 use Rattle.mojette.specs.Bins.{bins}
 use Rattle.plan.specs.Laid.{direction_of}
 use Rattle.plan.specs.Sums.{SumUpTo}
-use Rattle.plan.proofs.Adding.{none_added, all-added}
+use Rattle.plan.proofs.Adding.{none_added, all_added}
 use Rattle.plan.proofs.Cells.{laid_direction, steps_most}
 use Rattle.plan.proofs.project.write_sums.Goals as goal
 
-pub add-up-requires : goal.add-up-requires
-add-up-requires g c =
+pub add_up-requires : goal.add_up-requires
+add_up-requires g c =
     let P = c.args.columns in
     let Q = c.args.rows in
     let laid = c.lay-place.ensures in
@@ -29,10 +29,10 @@ returns g c =
     let laid = c.lay-place.ensures in
     let d : direction_of c.lay-place.result ≡ c.args.direction = ap direction_of laid ∙ laid_direction P Q (record { direction = c.args.direction; cause = 0 }) 0 c.requires.direction in
     let size : c.lay-place.result.bins ≡ bins P Q c.args.direction = ap (λ x. x.bins) laid in
-    let others : drop (bins P Q c.args.direction) c.add-up.new.sums ≡ drop (bins P Q c.args.direction) c.args.sums.now =
-    subst (λ (e : Direction). drop (bins P Q e) c.add-up.new.sums ≡ drop (bins P Q e) c.clear.new.cells) d c.add-up.ensures.others
+    let others : drop (bins P Q c.args.direction) c.add_up.new.sums ≡ drop (bins P Q c.args.direction) c.args.sums.now =
+    subst (λ (e : Direction). drop (bins P Q e) c.add_up.new.sums ≡ drop (bins P Q e) c.clear.new.cells) d c.add_up.ensures.others
     ∙ subst (λ n. drop n c.clear.new.cells ≡ drop n c.args.sums.now) size c.clear.ensures.others in
-    all-added g.K.Kind P Q c.args.direction c.args.picture.now c.args.sums.now c.add-up.new.sums
-    (omega (arith, c.requires.room.1, c.clear.auto.cells, c.add-up.auto.sums))
-    (subst (λ (e : Direction). SumUpTo g.K.Kind P Q e c.args.picture.now (P * Q) c.add-up.new.sums) d c.add-up.ensures.sums)
+    all_added g.K.Kind P Q c.args.direction c.args.picture.now c.args.sums.now c.add_up.new.sums
+    (omega (arith, c.requires.room.1, c.clear.auto.cells, c.add_up.auto.sums))
+    (subst (λ (e : Direction). SumUpTo g.K.Kind P Q e c.args.picture.now (P * Q) c.add_up.new.sums) d c.add_up.ensures.sums)
     others

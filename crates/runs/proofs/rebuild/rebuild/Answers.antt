@@ -12,18 +12,18 @@ use Rattle.runs.proofs.rebuild.rebuild.Goals as goal
 never : (r : Refusal) → None ≡ Some r → ⊥
 never r e = let z : ◌≡◌ {A = ℕ} 0 1 = cc in omega arith
 
-pub returns-in-err-tile : goal.returns-in-err-tile
-returns-in-err-tile g c =
+pub returns-in_err-tile : goal.returns-in_err-tile
+returns-in_err-tile g c =
     let K = g.Sample.Kind in
     let m = g.S.Source.meaning c.args.source.now in
     let before = tables c.args.picture.now c.args.marks.now c.args.sums.now c.args.counts.now c.args.queue.now in
     let p = err_from_is_err_and c.from-residual.result c.from-residual.ensures.1 in
-    let opens = c.in-err-tile.ensures in
+    let opens = c.in_err-tile.ensures in
     let run : Rebuilds K m before (answer c.from-residual.result) before = rw (p.1, p.2) (unlawful opens.0) in
     record {
       run = run;
       exactly = serves_exactly K m before (answer c.from-residual.result) before run;
-      plan = (λ lawful. absurd (never (refusal_of c.in-err-tile.field-0.0) (sym lawful ∙ opens.0)), λ r e. opens.1);
+      plan = (λ lawful. absurd (never (refusal_of c.in_err-tile.field-0.0) (sym lawful ∙ opens.0)), λ r e. opens.1);
       law = law K;
     }
 
@@ -33,7 +33,7 @@ returns g c =
     let m = g.S.Source.meaning c.args.source.now in
     let before = tables c.args.picture.now c.args.marks.now c.args.sums.now c.args.counts.now c.args.queue.now in
     let after = tables c.run.new.picture c.run.new.marks c.run.new.sums c.run.new.counts c.run.new.queue in
-    let opens = c.in-ok-tile.ensures in
+    let opens = c.in_ok-tile.ensures in
     record {
       run = c.run.ensures;
       exactly = serves_exactly K m before (answer c.run.result) after c.run.ensures;

@@ -18,9 +18,9 @@ unreachable-requires g c =
     let plan = c.args.plan.now in
     let own = c.requires.own in
     let before = tables c.args.picture.now c.args.marks.now c.args.sums.now c.args.counts.now c.args.queue.now in
-    let ready = begins K m plan c.requires.lawful own before c.in-default.ensures in
+    let ready = begins K m plan c.requires.lawful own before c.in_default.ensures in
     let loaded =
-    c.in-default-load-all.ensures own c.args.picture.now c.args.marks.now c.args.counts.now c.args.queue.now _
+    c.in_default-load_all.ensures own c.args.picture.now c.args.marks.now c.args.counts.now c.args.queue.now _
     (first_life K m plan c.requires.lawful own before ready c.args.tile c.requires.opened) (none_loaded K m plan c.requires.lawful own before) in
     loaded
 
@@ -31,7 +31,7 @@ returns-in-Err g c =
     let plan = c.args.plan.now in
     let own = c.requires.own in
     let before = tables c.args.picture.now c.args.marks.now c.args.sums.now c.args.counts.now c.args.queue.now in
-    let ready = begins K m plan c.requires.lawful own before c.in-default.ensures in
+    let ready = begins K m plan c.requires.lawful own before c.in_default.ensures in
     let loaded =
     c.in-Ok.ensures own c.args.picture.now c.args.marks.now c.args.counts.now c.args.queue.now _
     (first_life K m plan c.requires.lawful own before ready c.args.tile c.requires.opened) (none_loaded K m plan c.requires.lawful own before) in
@@ -39,14 +39,14 @@ returns-in-Err g c =
     let begun = tables c.seal.new.picture c.seal.new.marks c.seal.new.sums c.seal.new.counts c.seal.new.queue in
     seal_refused K m plan own before ready c.in-Ok.tile filled begun loaded.0 loaded.1 loaded.2 c.in-Err.refused c.in-Err.ensures
 
-pub unreachable-requires-in-Err-peel-all : goal.unreachable-requires-in-Err-peel-all
-unreachable-requires-in-Err-peel-all g c =
+pub unreachable-requires-in-Err-peel_all : goal.unreachable-requires-in-Err-peel_all
+unreachable-requires-in-Err-peel_all g c =
     let K = g.Sample.Kind in
     let m = g.S.Source.meaning c.args.source.now in
     let plan = c.args.plan.now in
     let own = c.requires.own in
     let before = tables c.args.picture.now c.args.marks.now c.args.sums.now c.args.counts.now c.args.queue.now in
-    let ready = begins K m plan c.requires.lawful own before c.in-default.ensures in
+    let ready = begins K m plan c.requires.lawful own before c.in_default.ensures in
     let loaded =
     c.in-Ok.ensures own c.args.picture.now c.args.marks.now c.args.counts.now c.args.queue.now _
     (first_life K m plan c.requires.lawful own before ready c.args.tile c.requires.opened) (none_loaded K m plan c.requires.lawful own before) in
@@ -54,7 +54,7 @@ unreachable-requires-in-Err-peel-all g c =
     let begun = tables c.seal.new.picture c.seal.new.marks c.seal.new.sums c.seal.new.counts c.seal.new.queue in
     let life = sealed K m plan own before ready c.in-Ok.tile filled begun loaded.0 loaded.1 loaded.2 c.in-Ok-seal.tile c.in-Ok-seal.ensures in
     let none = none_out_yet K m plan own before ready c.in-Ok.tile filled begun loaded.0 loaded.1 loaded.2 c.in-Ok-seal.tile c.in-Ok-seal.ensures in
-    let peeled = c.in-Err-peel-all.ensures m _ own life none in
+    let peeled = c.in-Err-peel_all.ensures m _ own life none in
     peeled
 
 pub returns-in-Ok-finish : goal.returns-in-Ok-finish
@@ -64,7 +64,7 @@ returns-in-Ok-finish g c =
     let plan = c.args.plan.now in
     let own = c.requires.own in
     let before = tables c.args.picture.now c.args.marks.now c.args.sums.now c.args.counts.now c.args.queue.now in
-    let ready = begins K m plan c.requires.lawful own before c.in-default.ensures in
+    let ready = begins K m plan c.requires.lawful own before c.in_default.ensures in
     let loaded =
     c.in-Ok.ensures own c.args.picture.now c.args.marks.now c.args.counts.now c.args.queue.now _
     (first_life K m plan c.requires.lawful own before ready c.args.tile c.requires.opened) (none_loaded K m plan c.requires.lawful own before) in
@@ -72,10 +72,10 @@ returns-in-Ok-finish g c =
     let begun = tables c.seal.new.picture c.seal.new.marks c.seal.new.sums c.seal.new.counts c.seal.new.queue in
     let life = sealed K m plan own before ready c.in-Ok.tile filled begun loaded.0 loaded.1 loaded.2 c.in-Ok-seal.tile c.in-Ok-seal.ensures in
     let none = none_out_yet K m plan own before ready c.in-Ok.tile filled begun loaded.0 loaded.1 loaded.2 c.in-Ok-seal.tile c.in-Ok-seal.ensures in
-    let peeled = c.in-Ok-peel-all.ensures m _ own life none in
+    let peeled = c.in-Ok-peel_all.ensures m _ own life none in
     let holds = criterion_holds K m plan own before ready c.in-Ok.tile filled begun loaded.0 loaded.1 loaded.2 c.in-Ok-seal.tile c.in-Ok-seal.ensures in
-    finish_served K m plan own before ready holds c.in-Ok-peel-all.tile c.peel-all.new.picture c.peel-all.new.sums c.peel-all.new.marks
-    c.peel-all.new.counts c.peel-all.new.queue peeled.0 peeled.1 peeled.2 c.in-Ok-finish.tile c.in-Ok-finish.ensures.step c.in-Ok-finish.ensures.cells
+    finish_served K m plan own before ready holds c.in-Ok-peel_all.tile c.peel_all.new.picture c.peel_all.new.sums c.peel_all.new.marks
+    c.peel_all.new.counts c.peel_all.new.queue peeled.0 peeled.1 peeled.2 c.in-Ok-finish.tile c.in-Ok-finish.ensures.step c.in-Ok-finish.ensures.cells
 
 pub returns-in-Err-finish : goal.returns-in-Err-finish
 returns-in-Err-finish g c =
@@ -84,7 +84,7 @@ returns-in-Err-finish g c =
     let plan = c.args.plan.now in
     let own = c.requires.own in
     let before = tables c.args.picture.now c.args.marks.now c.args.sums.now c.args.counts.now c.args.queue.now in
-    let ready = begins K m plan c.requires.lawful own before c.in-default.ensures in
+    let ready = begins K m plan c.requires.lawful own before c.in_default.ensures in
     let loaded =
     c.in-Ok.ensures own c.args.picture.now c.args.marks.now c.args.counts.now c.args.queue.now _
     (first_life K m plan c.requires.lawful own before ready c.args.tile c.requires.opened) (none_loaded K m plan c.requires.lawful own before) in
@@ -92,7 +92,7 @@ returns-in-Err-finish g c =
     let begun = tables c.seal.new.picture c.seal.new.marks c.seal.new.sums c.seal.new.counts c.seal.new.queue in
     let life = sealed K m plan own before ready c.in-Ok.tile filled begun loaded.0 loaded.1 loaded.2 c.in-Ok-seal.tile c.in-Ok-seal.ensures in
     let none = none_out_yet K m plan own before ready c.in-Ok.tile filled begun loaded.0 loaded.1 loaded.2 c.in-Ok-seal.tile c.in-Ok-seal.ensures in
-    let peeled = c.in-Ok-peel-all.ensures m _ own life none in
+    let peeled = c.in-Ok-peel_all.ensures m _ own life none in
     let holds = criterion_holds K m plan own before ready c.in-Ok.tile filled begun loaded.0 loaded.1 loaded.2 c.in-Ok-seal.tile c.in-Ok-seal.ensures in
-    finish_refused K m plan own before ready holds c.in-Ok-peel-all.tile c.peel-all.new.picture c.peel-all.new.sums c.peel-all.new.marks
-    c.peel-all.new.counts c.peel-all.new.queue peeled.0 peeled.1 peeled.2 c.in-Err-finish.refused c.in-Err-finish.ensures.step
+    finish_refused K m plan own before ready holds c.in-Ok-peel_all.tile c.peel_all.new.picture c.peel_all.new.sums c.peel_all.new.marks
+    c.peel_all.new.counts c.peel_all.new.queue peeled.0 peeled.1 peeled.2 c.in-Err-finish.refused c.in-Err-finish.ensures.step

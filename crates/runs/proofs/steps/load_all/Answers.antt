@@ -5,14 +5,14 @@ use Rattle.law.specs.Steps.{done}
 use Rattle.runs.proofs.Turns.{loaded_one, load_serves, loads_more, same_number}
 use Rattle.runs.proofs.steps.load_all.Goals as goal
 
-pub returns-in-err-tile : goal.returns-in-err-tile
-returns-in-err-tile g c = λ own picture marks counts queue h life zero.
+pub returns-in_err-tile : goal.returns-in_err-tile
+returns-in_err-tile g c = λ own picture marks counts queue h life zero.
     let K = g.Sample.Kind in
     let m = g.S.Source.meaning c.args.source.now in
     let plan = c.args.plan.now in
     let w = c.loop-i.invariant own picture marks counts queue h life zero in
     absurd (load_serves K m plan own c.loop-i.tile c.loop-i.sums c.load.new.sums picture marks counts queue w.0 w.1
-    (omega (arith, w.2, c.loop-i-test.true, c.count-i-end.ensures, same_number K m plan own)) c.in-err-tile.field-0.0 c.in-err-tile.ensures)
+    (omega (arith, w.2, c.loop-i-test.true, c.count-i-end.ensures, same_number K m plan own)) c.in_err-tile.field-0.0 c.in_err-tile.ensures)
 
 pub loop-i-init : goal.loop-i-init
 loop-i-init g c = λ own picture marks counts queue h life zero. (h, life, zero)
@@ -24,7 +24,7 @@ loop-i-preserved g c = λ own picture marks counts queue h life zero.
     let w = c.loop-i.invariant own picture marks counts queue h life zero in (
       event calls.loads done ∷ w.0,
       loaded_one K m c.args.plan.now own c.loop-i.tile c.loop-i.sums c.load.new.sums picture marks counts queue w.0 w.1
-          c.in-ok-tile.tile c.in-ok-tile.ensures,
+          c.in_ok-tile.tile c.in_ok-tile.ensures,
       loads_more K m w.0 ∙ ap (λ n. n + 1) w.2,
     )
 

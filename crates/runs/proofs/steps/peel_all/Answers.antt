@@ -25,8 +25,8 @@ returns-in-Err g c = λ m h own life none.
       ),
     )
 
-pub returns-in-err-settled : goal.returns-in-err-settled
-returns-in-err-settled g c = λ m h own life none.
+pub returns-in_err-settled : goal.returns-in_err-settled
+returns-in_err-settled g c = λ m h own life none.
     let K = g.K.Kind in
     let plan = c.args.plan.now in
     let w = c.loop-i.invariant m h own life none in
@@ -35,7 +35,7 @@ returns-in-err-settled g c = λ m h own life none.
     let took = taken_one K m plan own c.loop-i.tile c.loop-i.picture c.loop-i.sums c.loop-i.marks c.loop-i.counts c.loop-i.queue w.0 w.1 x grant c.in-Ok.ensures in
     absurd (settle_serves K m plan own x grant (tables c.loop-i.picture c.loop-i.marks c.loop-i.sums c.loop-i.counts c.loop-i.queue)
     (tables c.settle.new.picture c.settle.new.marks c.settle.new.sums c.settle.new.counts c.settle.new.queue)
-    (event calls.takes (granted grant.position) ∷ w.0) took (grant_is_out K m w.0 grant.position) c.in-err-settled.field-0.0 c.in-err-settled.ensures.step)
+    (event calls.takes (granted grant.position) ∷ w.0) took (grant_is_out K m w.0 grant.position) c.in_err-settled.field-0.0 c.in_err-settled.ensures.step)
 
 pub loop-i-init : goal.loop-i-init
 loop-i-init g c = λ m h own life none. (h, life, none, omega arith)
@@ -48,12 +48,12 @@ loop-i-preserved g c = λ m h own life none.
     let x = c.in-Ok.both.0 in
     let grant = c.in-Ok.both.1 in
     let p = grant.position in
-    let found = c.in-ok-settled.field-0-1 in
+    let found = c.in_ok-settled.field-0-1 in
     let took = taken_one K m plan own c.loop-i.tile c.loop-i.picture c.loop-i.sums c.loop-i.marks c.loop-i.counts c.loop-i.queue w.0 w.1 x grant c.in-Ok.ensures in (
       event (calls.settles p) (settled found.0 found.1) ∷ event calls.takes (granted p) ∷ w.0,
       settled_one K m plan own x grant (tables c.loop-i.picture c.loop-i.marks c.loop-i.sums c.loop-i.counts c.loop-i.queue)
           (tables c.settle.new.picture c.settle.new.marks c.settle.new.sums c.settle.new.counts c.settle.new.queue)
-          (event calls.takes (granted p) ∷ w.0) took (grant_is_out K m w.0 p) c.in-ok-settled.settled found.0 found.1 c.in-ok-settled.ensures.step,
+          (event calls.takes (granted p) ∷ w.0) took (grant_is_out K m w.0 p) c.in_ok-settled.settled found.0 found.1 c.in_ok-settled.ensures.step,
       none_out K m w.0 p found.0 found.1 w.2,
       omega (arith, w.3, one_settled K m w.0 p found.0 found.1),
     )

@@ -19,25 +19,25 @@ loop-b-init g c = (lit< tt, omega arith, refl)
 pub returns-then-digit-eq16 : goal.returns-then-digit-eq16
 returns-then-digit-eq16 g c = record {
   value = sym (cond-false (is_code g.K.Coded.width c.args.word.now) _ _
-      (no_digit c.args.word.now c.loop-b.b-index c.loop-b.n c.hex-value-digit.result c.loop-b-test.true c.hex-value-digit.ensures c.if-digit-eq16.true c.loop-b.invariant.2 g.K.Coded.width));
+      (no_digit c.args.word.now c.loop-b.b-index c.loop-b.n c.hex_value-digit.result c.loop-b-test.true c.hex_value-digit.ensures c.if-digit-eq16.true c.loop-b.invariant.2 g.K.Coded.width));
   law = one_to_one g.K.Coded;
 }
 
-pub overflow-mul-n : goal.overflow-mul-n
-overflow-mul-n g c =
-    let d = hex_digit (get_or c.args.word.now c.loop-b.b-index 0) c.hex-value-digit.result c.hex-value-digit.ensures c.if-digit-eq16.false in
+pub overflow_mul-n : goal.overflow_mul-n
+overflow_mul-n g c =
+    let d = hex_digit (get_or c.args.word.now c.loop-b.b-index 0) c.hex_value-digit.result c.hex_value-digit.ensures c.if-digit-eq16.false in
     let w : length c.args.word.now ≤ 12 = omega (arith, c.digits.ensures, g.K.Coded.coding.few_digits) in
-    omega (arith, hex_fits c.loop-b.b-index c.loop-b.n c.hex-value-digit.result c.loop-b.invariant.0 d (omega arith))
+    omega (arith, hex_fits c.loop-b.b-index c.loop-b.n c.hex_value-digit.result c.loop-b.invariant.0 d (omega arith))
 
-pub overflow-add-n : goal.overflow-add-n
-overflow-add-n g c =
-    let d = hex_digit (get_or c.args.word.now c.loop-b.b-index 0) c.hex-value-digit.result c.hex-value-digit.ensures c.if-digit-eq16.false in
+pub overflow_add-n : goal.overflow_add-n
+overflow_add-n g c =
+    let d = hex_digit (get_or c.args.word.now c.loop-b.b-index 0) c.hex_value-digit.result c.hex_value-digit.ensures c.if-digit-eq16.false in
     let w : length c.args.word.now ≤ 12 = omega (arith, c.digits.ensures, g.K.Coded.coding.few_digits) in
-    omega (arith, c.from.ensures, hex_fits c.loop-b.b-index c.loop-b.n c.hex-value-digit.result c.loop-b.invariant.0 d (omega arith))
+    omega (arith, c.from.ensures, hex_fits c.loop-b.b-index c.loop-b.n c.hex_value-digit.result c.loop-b.invariant.0 d (omega arith))
 
 pub loop-b-preserved : goal.loop-b-preserved
 loop-b-preserved g c =
-    let e = c.from.ensures ∙ c.hex-value-digit.ensures in
+    let e = c.from.ensures ∙ c.hex_value-digit.ensures in
     let d = hex_digit (get_or c.args.word.now c.loop-b.b-index 0) c.from.result e (λ z. c.if-digit-eq16.false (sym c.from.ensures ∙ z)) in (
       hex_bound c.loop-b.b-index c.loop-b.n c.from.result c.loop-b.invariant.0 d,
       number_more c.args.word.now c.loop-b.b-index c.loop-b.n c.from.result c.loop-b-test.true e c.loop-b.invariant.1,
@@ -49,6 +49,6 @@ returns g c =
     let l : length c.args.word.now ≡ g.K.Coded.width = omega (arith, c.digits.ensures) in
     let all = all_read c.args.word.now c.loop-b.b-index c.loop-b.n g.K.Coded.width c.loop-b-test.false l c.loop-b.invariant.1 c.loop-b.invariant.2 in
     record {
-      value = (λ i. Some ((c.from-number.ensures ∙ ap g.K.Coded.sample all.1) i)) ∙ sym (cond-true _ _ _ all.0);
+      value = (λ i. Some ((c.from_number.ensures ∙ ap g.K.Coded.sample all.1) i)) ∙ sym (cond-true _ _ _ all.0);
       law = one_to_one g.K.Coded;
     }

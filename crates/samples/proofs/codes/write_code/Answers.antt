@@ -1,7 +1,7 @@
 use Rattle.std.proofs.Common.{◌≡◌, ◌+◌, ◌-◌, ◌^◌, ◌<◌, ◌++◌, drop, sym, refl, ap, ◌∙◌, subst, subst₂, arith}
 use Rattle.samples.specs.Codes.{hex_text}
 use Rattle.samples.proofs.Digits.{length-hex_text}
-use Rattle.samples.proofs.Loops.{less_left, digit-written}
+use Rattle.samples.proofs.Loops.{less_left, digit_written}
 use Rattle.samples.proofs.codes.write_code.Goals as goal
 
 pub returns-then-out-width : goal.returns-then-out-width
@@ -9,7 +9,7 @@ returns-then-out-width g c = (omega (arith, c.digits-width.ensures, length-hex_t
 
 pub loop-i-init : goal.loop-i-init
 loop-i-init g c = (
-  subst₂ (λ k m. m < 16 ^ k) (sym c.digits-width.ensures) (sym c.to-number-rest.ensures) (g.K.Coded.coding.number_fits c.args.sample),
+  subst₂ (λ k m. m < 16 ^ k) (sym c.digits-width.ensures) (sym c.to_number-rest.ensures) (g.K.Coded.coding.number_fits c.args.sample),
   refl,
 )
 
@@ -19,7 +19,7 @@ loop-i-preserved g c =
     let e : c.loop-i.i ≡ c.loop-i.i - 1 + 1 = omega arith in
     let below : c.loop-i.rest < 16 ^ (c.loop-i.i - 1 + 1) = subst (λ k. c.loop-i.rest < 16 ^ k) e v.0 in (
       less_left (c.loop-i.i - 1) c.loop-i.rest below,
-      digit-written (c.loop-i.i - 1) c.loop-i.rest c.hex_byte.result c.loop-i.out below (omega arith) c.hex_byte.ensures
+      digit_written (c.loop-i.i - 1) c.loop-i.rest c.hex_byte.result c.loop-i.out below (omega arith) c.hex_byte.ensures
           ∙ ap (λ k. hex_text k c.loop-i.rest ++ drop k c.loop-i.out) (sym e) ∙ v.1,
     )
 
@@ -31,5 +31,5 @@ returns g c =
     let z : c.loop-i.i ≡ 0 = omega arith in (
       w ∙ sym l,
       sym (ap (λ k. hex_text k c.loop-i.rest ++ drop k c.loop-i.out) z) ∙ v.1
-          ∙ (λ i. hex_text (w i) (c.to-number-rest.ensures i) ++ drop ((w ∙ sym l) i) c.args.out.now),
+          ∙ (λ i. hex_text (w i) (c.to_number-rest.ensures i) ++ drop ((w ∙ sym l) i) c.args.out.now),
     )

@@ -4,50 +4,50 @@ use Rattle.mojette.specs.Faults.{refusal_of}
 use Rattle.source.proofs.Cuts.{run_of, no_place_answer, lost_answer, place_inside, no_bin_answer, bin_inside, bin_answer}
 use Rattle.source.proofs.rack_source.bin_of.Goals as goal
 
-pub returns-in-err-record : goal.returns-in-err-record
-returns-in-err-record g c =
+pub returns-in_err-record : goal.returns-in_err-record
+returns-in_err-record g c =
     let p = err_from_is_err_and c.from-residual.result c.from-residual.ensures.1 in
     rw (p.1, p.2)
     (no_place_answer g.K.Kind c.args.plan.now.columns c.args.plan.now.rows c.args.records.now c.args.run.now c.args.i c.args.b
-    (refusal_of c.in-err-record.field-0.0) c.in-err-record.ensures)
+    (refusal_of c.in_err-record.field-0.0) c.in_err-record.ensures)
 
 pub returns-then-record-ne0 : goal.returns-then-record-ne0
 returns-then-record-ne0 g c =
     lost_answer g.K.Kind c.args.plan.now.columns c.args.plan.now.rows c.args.records.now c.args.run.now c.args.i c.args.b
-    c.in-ok-record.record c.in-ok-record.ensures c.if-record-ne0.true
+    c.in_ok-record.record c.in_ok-record.ensures c.if-record-ne0.true
 
 pub bounds-places-i : goal.bounds-places-i
 bounds-places-i g c =
     place_inside g.K.Kind c.args.plan.now.columns c.args.plan.now.rows c.args.records.now c.args.run.now c.args.i c.args.b
-    c.in-ok-record.record c.in-ok-record.ensures c.places.result.now
+    c.in_ok-record.record c.in_ok-record.ensures c.places.result.now
     (run_of c.args.plan.now c.args.records.now c.args.run.now c.places.result.now c.places.ensures c.requires.same c.requires.full)
 
-pub offset-bounds-places-i : goal.offset-bounds-places-i
-offset-bounds-places-i g c = let inside = bounds-places-i g c in search rules
+pub offset_bounds-places-i : goal.offset_bounds-places-i
+offset_bounds-places-i g c = let inside = bounds-places-i g c in search rules
 
 pub returns-then-b-place : goal.returns-then-b-place
 returns-then-b-place g c =
     no_bin_answer g.K.Kind c.args.plan.now.columns c.args.plan.now.rows c.args.records.now c.args.run.now c.args.i c.args.b
-    c.in-ok-record.record c.in-ok-record.ensures c.places.result.now
+    c.in_ok-record.record c.in_ok-record.ensures c.places.result.now
     (run_of c.args.plan.now c.args.records.now c.args.run.now c.places.result.now c.places.ensures c.requires.same c.requires.full)
     c.if-record-ne0.false c.if-b-place.true
 
 pub bounds-run-place : goal.bounds-run-place
 bounds-run-place g c =
     bin_inside g.K.Kind c.args.plan.now.columns c.args.plan.now.rows c.args.records.now c.args.run.now c.args.i c.args.b
-    c.in-ok-record.record c.in-ok-record.ensures c.places.result.now
+    c.in_ok-record.record c.in_ok-record.ensures c.places.result.now
     (run_of c.args.plan.now c.args.records.now c.args.run.now c.places.result.now c.places.ensures c.requires.same c.requires.full)
     c.if-b-place.false
 
-pub offset-bounds-run-place : goal.offset-bounds-run-place
-offset-bounds-run-place g c = let inside = bounds-run-place g c in omega arith
+pub offset_bounds-run-place : goal.offset_bounds-run-place
+offset_bounds-run-place g c = let inside = bounds-run-place g c in omega arith
 
-pub overflow-add-result : goal.overflow-add-result
-overflow-add-result g c = let inside = bounds-run-place g c in search rules
+pub overflow_add-result : goal.overflow_add-result
+overflow_add-result g c = let inside = bounds-run-place g c in search rules
 
 pub returns : goal.returns
 returns g c =
     bin_answer g.K.Kind c.args.plan.now.columns c.args.plan.now.rows c.args.records.now c.args.run.now c.args.i c.args.b
-    c.in-ok-record.record c.in-ok-record.ensures c.places.result.now
+    c.in_ok-record.record c.in_ok-record.ensures c.places.result.now
     (run_of c.args.plan.now c.args.records.now c.args.run.now c.places.result.now c.places.ensures c.requires.same c.requires.full)
     c.if-record-ne0.false c.if-b-place.false c.index-run-place.result c.index-run-place.is

@@ -6,15 +6,15 @@ use Rattle.walk.proofs.Laying.{turn, all_starts}
 use Rattle.tile.proofs.Leftovers.{read_left, one_more, first_is, none_left}
 use Rattle.tile.proofs.finish.first_left.Goals as goal
 
-pub overflow-add-place : goal.overflow-add-place
-overflow-add-place g c =
+pub overflow_add-place : goal.overflow_add-place
+overflow_add-place g c =
     let plan = c.args.plan.now in
     let t = turn plan c.places-places.result.now c.loop-i.i c.places-places.ensures c.loop-i-test.true in
     let few : (place_at c.places-places.result.now c.loop-i.i).start + c.loop-b.b < 65536 = omega (arith, t.inside, plan.few_bins, c.loop-b-test.true) in
     search rules
 
-pub offset-bounds-sums-place : goal.offset-bounds-sums-place
-offset-bounds-sums-place g c =
+pub offset_bounds-sums-place : goal.offset_bounds-sums-place
+offset_bounds-sums-place g c =
     let plan = c.args.plan.now in
     let t = turn plan c.places-places.result.now c.loop-i.i c.places-places.ensures c.loop-i-test.true in
     omega (arith, t.inside, plan.full, c.requires, c.loop-b-test.true)
@@ -35,8 +35,8 @@ loop-b-preserved g c =
     let plan = c.args.plan.now in
     let t = turn plan c.places-places.result.now c.loop-i.i c.places-places.ensures c.loop-i-test.true in
     let at = (place_at c.places-places.result.now c.loop-i.i).start + c.loop-b.b in
-    let here = read_left g.K.Kind c.args.sums.now at c.index-sums-place.result c.zero-sample-zero.result true
-    (omega (arith, t.inside, plan.full, c.requires, c.loop-b-test.true)) c.index-sums-place.is c.zero-sample-zero.ensures c.if-not-same.ensures in
+    let here = read_left g.K.Kind c.args.sums.now at c.index-sums-place.result c.zero_sample-zero.result true
+    (omega (arith, t.inside, plan.full, c.requires, c.loop-b-test.true)) c.index-sums-place.is c.zero_sample-zero.ensures c.if-not-same.ensures in
     λ x l. one_more g.K.Kind c.args.sums.now at c.loop-b.invariant here x (omega arith)
 
 pub loop-i-preserved : goal.loop-i-preserved
@@ -50,8 +50,8 @@ returns-then-not-same g c =
     let t = turn plan c.places-places.result.now c.loop-i.i c.places-places.ensures c.loop-i-test.true in
     let at = (place_at c.places-places.result.now c.loop-i.i).start + c.loop-b.b in
     let inside : at < bins_of (shape plan) = omega (arith, t.inside, plan.full, c.loop-b-test.true) in
-    let here = read_left g.K.Kind c.args.sums.now at c.index-sums-place.result c.zero-sample-zero.result false
-    (omega (arith, inside, c.requires)) c.index-sums-place.is c.zero-sample-zero.ensures c.if-not-same.ensures in
+    let here = read_left g.K.Kind c.args.sums.now at c.index-sums-place.result c.zero_sample-zero.result false
+    (omega (arith, inside, c.requires)) c.index-sums-place.is c.zero_sample-zero.ensures c.if-not-same.ensures in
     let first = first_is g.K.Kind c.args.sums.now (bins_of (shape plan)) at inside here c.loop-b.invariant in
     record {
       known = t.known;

@@ -24,8 +24,8 @@ returns-then-sizes-columns g c =
           (ap (λ z. z.places) c.sizes-sizes.ensures ∙ e ∙ length-map (places_of plan) record_of ∙ sym (ap length c.places-places.ensures)))
     ]
 
-pub record-of-requires : goal.record-of-requires
-record-of-requires g c =
+pub record_of-requires : goal.record_of-requires
+record_of-requires g c =
     let plan = c.args.plan.now in
     let on = on_tile plan c.args.i c.requires 0 (omega (arith, bins_are plan c.args.i c.requires)) in
     let same = sym (ap (λ ys. place_at ys c.args.i) c.places-places.ensures) in
@@ -38,5 +38,5 @@ returns-in-Ok g c =
     let sizes = c.sizes-sizes.ensures in
     same_there c.args.plan.now m c.args.i c.places-places.result.now c.places-places.ensures c.requires
     (sym (ap (λ z. z.columns) sizes) ∙ c.if-sizes-columns.false ∙ c.columns.ensures) (sym (ap (λ z. z.rows) sizes) ∙ c.if-sizes-rows.false ∙ c.rows.ensures)
-    (sym (ap (λ z. z.places) sizes) ∙ c.if-sizes-places.false) c.in-Ok.other found.same c.is-same.result
-    (c.is-same.ensures ∙ ap (λ x. same_record x c.in-Ok.other) c.record-of.ensures)
+    (sym (ap (λ z. z.places) sizes) ∙ c.if-sizes-places.false) c.in-Ok.other found.same c.is_same.result
+    (c.is_same.ensures ∙ ap (λ x. same_record x c.in-Ok.other) c.record_of.ensures)

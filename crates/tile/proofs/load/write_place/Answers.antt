@@ -8,4 +8,4 @@ loop-b-init g c = written_none c.args.from (bin_value g.Sample.Kind (g.S.Source.
 pub loop-b-preserved : goal.loop-b-preserved
 loop-b-preserved g c =
     written_more c.args.from c.loop-b.b (bin_value g.Sample.Kind (g.S.Source.meaning c.args.source.now) c.args.i) c.args.sums.now c.loop-b.sums
-    c.bin-or-zero.result c.loop-b.invariant c.bin-or-zero.ensures
+    c.bin_or_zero.result c.loop-b.invariant c.bin_or_zero.ensures

@@ -11,12 +11,12 @@ pub loop-i-init : goal.loop-i-init
 unfolding take_off_all
 loop-i-init g c p m = refl
 
-pub take-off-requires : goal.take-off-requires
-take-off-requires g c =
+pub take_off-requires : goal.take_off-requires
+take_off-requires g c =
     let plan = c.args.plan.now in
     let t = turn plan c.places-places.result.now c.loop-i.-i c.places-places.ensures c.loop-i-test.true in
-    let lies = lies_here plan c.places-places.result.now c.loop-i.-i c.args.pixel c.bin-at-at.result c.columns-columns.result c.rows-rows.result t
-    c.columns-columns.ensures c.rows-rows.ensures c.requires.pixel c.bin-at-at.ensures.lies in
+    let lies = lies_here plan c.places-places.result.now c.loop-i.-i c.args.pixel c.bin_at-at.result c.columns-columns.result c.rows-rows.result t
+    c.columns-columns.ensures c.rows-rows.ensures c.requires.pixel c.bin_at-at.ensures.lies in
     let all = c.total-bins.ensures.value in
     let room = c.requires.room in
     record {
@@ -41,10 +41,10 @@ loop-i-preserved g c p m =
     let after = world c.if-place-eq0.state p m c.if-place-eq0.sums c.if-place-eq0.counts c.if-place-eq0.queue in
     elim c.if-place-eq0.branch [
       | then-place-eq0 w ↦
-          let lies = lies_here plan c.places-places.result.now i c.args.pixel w.bin-at-at.result c.columns-columns.result c.rows-rows.result t
-          c.columns-columns.ensures c.rows-rows.ensures c.requires.pixel w.bin-at-at.ensures.lies in
+          let lies = lies_here plan c.places-places.result.now i c.args.pixel w.bin_at-at.result c.columns-columns.result c.rows-rows.result t
+          c.columns-columns.ensures c.rows-rows.ensures c.requires.pixel w.bin_at-at.ensures.lies in
           let last = w.take_off.new in
-          whole_turn K plan cell v first i t.known before after (c.loop-i.invariant p m) c.total-bins.result c.total-bins.ensures.value w.bin-at-at.result lies
+          whole_turn K plan cell v first i t.known before after (c.loop-i.invariant p m) c.total-bins.result c.total-bins.ensures.value w.bin_at-at.result lies
           (sym (ap (λ x. x.cause) t.same) ∙ w.if-place-eq0.true) (world last.state p m last.sums last.counts last.queue) (w.take_off.ensures p m)
           (λ j. world (w.state-is j) p m (w.sums-is j) (w.counts-is j) (w.queue-is j))
       | else-place-eq0 w ↦

@@ -18,7 +18,7 @@ returns-then-state-bins c = record {
     test : ltb c.args.state.now.waiting c.args.bins ≡ true
     test = lt-ltb _ _ c.if-state-bins.true
 
-    one : c.saturating-add-state.result ≡ min (c.args.state.now.waiting + 1) most
+    one : c.saturating_add-state.result ≡ min (c.args.state.now.waiting + 1) most
     one = search rules
 
 pub returns-else-state-bins : goal.returns-else-state-bins

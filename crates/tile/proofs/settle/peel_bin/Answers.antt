@@ -9,10 +9,10 @@ use Rattle.walk.specs.Finding.{OfTile}
 use Rattle.tile.proofs.Finding.{finds_none, finds_one, peels}
 use Rattle.tile.proofs.settle.peel_bin.Goals as goal
 
-pub returns-in-default : goal.returns-in-default
-returns-in-default g c =
+pub returns-in_default : goal.returns-in_default
+returns-in_default g c =
     let w = world c.args.state.now c.args.picture.now c.args.marks.now c.args.sums.now c.args.counts.now c.args.queue.now in
-    let none = finds_none g.K.Kind (shape c.args.plan.now) c.args.at w c.requires.position c.requires.pixels.1 c.in-default.ensures.is in
+    let none = finds_none g.K.Kind (shape c.args.plan.now) c.args.at w c.requires.position c.requires.pixels.1 c.in_default.ensures.is in
     record { cell = none.0; world = none.1 }
 
 -- the cell that is found is one of the tile's
@@ -25,8 +25,8 @@ bounds-picture-pixel g c = let inside = cell_inside c.args.plan.now c.in-Some.pi
 pub bounds-marks-pixel : goal.bounds-marks-pixel
 bounds-marks-pixel g c = let inside = cell_inside c.args.plan.now c.in-Some.pixel c.in-Some.ensures.pixel in omega (arith, c.requires.pixels.1)
 
-pub offset-bounds-picture-pixel : goal.offset-bounds-picture-pixel
-offset-bounds-picture-pixel g c =
+pub offset_bounds-picture-pixel : goal.offset_bounds-picture-pixel
+offset_bounds-picture-pixel g c =
     let inside = cell_inside c.args.plan.now c.in-Some.pixel c.in-Some.ensures.pixel in
     let within : c.in-Some.pixel.cell < length c.args.picture.now = omega (arith, c.requires.pixels.0) in
     search rules
@@ -47,6 +47,6 @@ returns g c =
       cell = finds_one K plan at w c.requires.position c.requires.pixels.1 x found;
       world =
           peels K plan at w c.requires.position c.requires.pixels.1 x found v (omega (arith, c.requires.position, c.requires.room.for_sums)) c.index-sums-at.is
-          c.saturating-sub-state.result c.saturating-sub-state.ensures (world last.state picture marks last.sums last.counts last.queue)
+          c.saturating_sub-state.result c.saturating_sub-state.ensures (world last.state picture marks last.sums last.counts last.queue)
           (c.take_off_all.ensures picture marks);
     }

@@ -8,15 +8,15 @@ use Rattle.law.specs.Positions.{incidence}
 use Rattle.plan.specs.Laid.{place_at as nth}
 use Rattle.plan.specs.Shapes.{shape, places_of}
 use Rattle.walk.proofs.Laying.{all_starts}
-use Rattle.walk.proofs.Places.{laid_within, one-place-more}
+use Rattle.walk.proofs.Places.{laid_within, one_place_more}
 use Rattle.law.proofs.Writing.{filled_none}
 use Rattle.walk.proofs.counts.count_pixels.Goals as goal
 
 pub loop-place-init : goal.loop-place-init
 loop-place-init c = filled_none _ c.args.counts.now
 
-pub count-place-requires : goal.count-place-requires
-count-place-requires c =
+pub count_place-requires : goal.count_place-requires
+count_place-requires c =
     let plan = c.args.plan.now in
     let i = c.loop-place.place-index in
     laid_within plan i (subst (λ ys. i < length ys) c.places-places.ensures c.loop-place-test.true) c.columns-columns.result c.rows-rows.result
@@ -27,9 +27,9 @@ pub loop-place-preserved : goal.loop-place-preserved
 loop-place-preserved c =
     let plan = c.args.plan.now in
     let i = c.loop-place.place-index in
-    one-place-more plan i (subst (λ ys. i < length ys) c.places-places.ensures c.loop-place-test.true) c.columns-columns.result c.rows-rows.result
+    one_place_more plan i (subst (λ ys. i < length ys) c.places-places.ensures c.loop-place-test.true) c.columns-columns.result c.rows-rows.result
     (nth c.places-places.result.now i) c.columns-columns.ensures c.rows-rows.ensures (ap (λ ys. nth ys i) c.places-places.ensures)
-    c.args.counts.now c.loop-place.counts c.count-place.new.counts c.loop-place.invariant c.count-place.ensures
+    c.args.counts.now c.loop-place.counts c.count_place.new.counts c.loop-place.invariant c.count_place.ensures
 
 pub returns : goal.returns
 returns c =

@@ -40,16 +40,16 @@ before_is c =
       )
     ]
 
-pub overflow-add-counts : goal.overflow-add-counts
-overflow-add-counts c =
-    let few = few_before c.args.columns c.args.rows c.args.place c.requires.slanted.0 c.requires.place.line.some_rows c.requires.slanted.1.0 c.loop-b.b c.if-b-place.before (before_is (goal.at.overflow-add-counts c).Joined-b-place) in
+pub overflow_add-counts : goal.overflow_add-counts
+overflow_add-counts c =
+    let few = few_before c.args.columns c.args.rows c.args.place c.requires.slanted.0 c.requires.place.line.some_rows c.requires.slanted.1.0 c.loop-b.b c.if-b-place.before (before_is (goal.at.overflow_add-counts c).Joined-b-place) in
     let one = begun_few c.args.columns c.args.rows c.args.place c.requires.slanted.0 c.requires.place.line.some_rows c.requires.slanted.1.0 c.loop-b.b c.if-b-place.before in
     let m : c.if-b-place.before + c.pass-begun.result < 256 = omega (arith, c.pass-begun.ensures.number, c.requires.place.line.few_rows) in
     search rules
 
-pub overflow-sub-counts : goal.overflow-sub-counts
-overflow-sub-counts c =
-    let e = balanced c.args.columns c.args.rows c.args.place c.requires.slanted.0 c.requires.place.line.some_rows c.requires.slanted.1.0 c.loop-b.b c.if-b-place.before (before_is (goal.at.overflow-sub-counts c).Joined-b-place) in
+pub overflow_sub-counts : goal.overflow_sub-counts
+overflow_sub-counts c =
+    let e = balanced c.args.columns c.args.rows c.args.place c.requires.slanted.0 c.requires.place.line.some_rows c.requires.slanted.1.0 c.loop-b.b c.if-b-place.before (before_is (goal.at.overflow_sub-counts c).Joined-b-place) in
     omega (arith, c.pass-begun.ensures.number, c.pass-ended.ensures.number)
 
 pub loop-b-preserved : goal.loop-b-preserved

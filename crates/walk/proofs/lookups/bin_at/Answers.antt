@@ -15,14 +15,14 @@ returns c =
     let Q = c.args.rows in
     let place = c.args.place.now in
     let pixel = c.args.pixel in
-    let across : c.saturating-sub-across.result ≡ P - 1 - pixel.column = c.saturating-sub-across.ensures ∙ ap (λ n. n - pixel.column) c.saturating-sub.ensures in
+    let across : c.saturating_sub-across.result ≡ P - 1 - pixel.column = c.saturating_sub-across.ensures ∙ ap (λ n. n - pixel.column) c.saturating_sub.ensures in
     let along : c.if-place.along ≡ turned place.leftward Q pixel.row =
     elim c.if-place.branch [
-      | then-place w ↦ w.along-is ∙ w.saturating-sub-along.ensures ∙ ap (λ n. n - pixel.row) w.saturating-sub-then-place.ensures ∙ sym (cond-true _ _ _ w.if-place.true)
+      | then-place w ↦ w.along-is ∙ w.saturating_sub-along.ensures ∙ ap (λ n. n - pixel.row) w.saturating_sub-then-place.ensures ∙ sym (cond-true _ _ _ w.if-place.true)
       | else-place w ↦ w.along-is ∙ sym (cond-false _ _ _ w.if-place.false)
     ] in
-    let sum : (place.start + (c.saturating-sub-across.result * place.q % 2 ^ 64 + c.if-place.along * place.slope % 2 ^ 64) % 2 ^ 64) % 2 ^ 64
+    let sum : (place.start + (c.saturating_sub-across.result * place.q % 2 ^ 64 + c.if-place.along * place.slope % 2 ^ 64) % 2 ^ 64) % 2 ^ 64
     ≡ (place.start + bin_number P Q place pixel.column pixel.row) % 2 ^ 64 =
-    wraps place.start (c.saturating-sub-across.result * place.q) (c.if-place.along * place.slope)
+    wraps place.start (c.saturating_sub-across.result * place.q) (c.if-place.along * place.slope)
     ∙ (λ j. (place.start + (across j * place.q + along j * place.slope)) % 2 ^ 64) in
     record { sum = sum; lies = lies_wherever P Q place pixel _ sum }

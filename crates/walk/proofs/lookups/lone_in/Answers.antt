@@ -8,13 +8,13 @@ use Rattle.walk.proofs.Finding.{alone_is, none_alone}
 use Rattle.walk.proofs.lookups.lone_in.Goals as goal
 use Rattle.walk.proofs.lookups.lone_in.Goals.{then-place, else-place}
 
-pub returns-in-default : goal.returns-in-default
-returns-in-default c =
+pub returns-in_default : goal.returns-in_default
+returns-in_default c =
     let P = c.args.columns in
     let Q = c.args.rows in
     let marks = c.args.marks.now in
     record {
-      is = none_alone P Q (miss P Q c.args.place c.args.bin marks) (not_one_missing P Q c.args.place c.args.bin marks c.in-default.ensures);
+      is = none_alone P Q (miss P Q c.args.place c.args.bin marks) (not_one_missing P Q c.args.place c.args.bin marks c.in_default.ensures);
       pixel = tt;
     }
 

@@ -8,8 +8,8 @@ use Rattle.walk.proofs.Finding.{stands_there, stands_nowhere}
 use Rattle.walk.proofs.Laying.{turn, place_is, bin_is, all_starts}
 use Rattle.walk.proofs.lookups.place_of.Goals as goal
 
-pub overflow-add-place : goal.overflow-add-place
-overflow-add-place c =
+pub overflow_add-place : goal.overflow_add-place
+overflow_add-place c =
     let plan = c.args.plan.now in
     let ys = c.places-places.result.now in
     let t = turn plan ys c.loop-i.i c.places-places.ensures c.loop-i-test.true in

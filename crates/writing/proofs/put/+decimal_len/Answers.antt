@@ -14,6 +14,6 @@ returns-else-n-lt10 t c =
     let e = ap length (decimal_step c.args.n c.if-n-lt10.false (omega arith)) ∙ length_push _ _ in
     let l = length-decimal-le 20 c.args.n (omega arith) (omega arith) (omega arith) in
     record {
-      value = omega (arith, c.decimal-len.ensures.value);
-      short = omega (arith, c.decimal-len.ensures.value);
+      value = omega (arith, c.decimal_len.ensures.value);
+      short = omega (arith, c.decimal_len.ensures.value);
     }

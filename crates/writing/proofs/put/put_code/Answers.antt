@@ -2,7 +2,7 @@ use Rattle.std.proofs.Common.{◌≡◌, ◌+◌, ◌-◌, length, take, drop, s
 use Rattle.std.proofs.lemmas.List.{length-take, length-drop}
 use Rattle.samples.specs.Reading.{code}
 use Rattle.samples.proofs.Digits.{length-hex_text}
-use Rattle.writing.proofs.OfSplices.{fills-part, put-part}
+use Rattle.writing.proofs.OfSplices.{fills_part, put_part}
 use Rattle.writing.proofs.put.put_code.Goals as goal
 
 pub returns : goal.returns
@@ -15,5 +15,5 @@ returns g c =
     omega (arith, length-take k (drop c.args.at out), length-drop c.args.at out, c.requires, c.digits.ensures) in
     record {
       ends = omega arith;
-      cells = put-part c.args.at _ out text c.write-code.new.out (omega arith) (fills-part text _ c.write-code.new.out c.write-code.result c.write-code.ensures long);
+      cells = put_part c.args.at _ out text c.write_code.new.out (omega arith) (fills_part text _ c.write_code.new.out c.write_code.result c.write_code.ensures long);
     }

@@ -13,7 +13,7 @@ pub loop-i-preserved : goal.loop-i-preserved
 loop-i-preserved c =
     let es = c.args.records.now in
     let e = ap length (lost_more es c.loop-i.i blank c.loop-i-test.true) ∙ length-append (lost_text 0 (take c.loop-i.i es) []) (lost_text c.loop-i.i (get_or es c.loop-i.i blank ∷ []) []) in
-    (omega (arith, c.loop-i.invariant.0, c.lost-line-len-len.ensures.value), omega (arith, c.loop-i.invariant.1, c.lost-line-len-len.ensures.small))
+    (omega (arith, c.loop-i.invariant.0, c.lost_line_len-len.ensures.value), omega (arith, c.loop-i.invariant.1, c.lost_line_len-len.ensures.small))
 
 pub returns : goal.returns
 returns c =

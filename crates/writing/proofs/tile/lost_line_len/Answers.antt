@@ -13,6 +13,6 @@ returns c =
     let e = ap length (one_line c.args.i c.args.«record» c.if-record-eq0.false) ∙ length-line c.args.i c.args.«record».cause in
     let same = ap (λ n. length (decimal n)) c.from.ensures in
     record {
-      value = omega (arith, c.decimal-len.ensures.value, c.decimal-len-2.ensures.value);
-      small = omega (arith, c.decimal-len.ensures.short, c.decimal-len-2.ensures.short);
+      value = omega (arith, c.decimal_len.ensures.value, c.decimal_len-2.ensures.value);
+      small = omega (arith, c.decimal_len.ensures.short, c.decimal_len-2.ensures.short);
     }

@@ -14,8 +14,8 @@ put-end-requires g c =
     let r = room_for_code g.K.Coded c.args.samples.now c.loop-sample.sample-index g.K.Kind.zero c.loop-sample-test.true in
     omega (arith, c.loop-sample.invariant.ends, c.requires)
 
-pub put-code-end-requires : goal.put-code-end-requires
-put-code-end-requires g c =
+pub put_code-end-requires : goal.put_code-end-requires
+put_code-end-requires g c =
     let r = room_for_code g.K.Coded c.args.samples.now c.loop-sample.sample-index g.K.Kind.zero c.loop-sample-test.true in
     omega (arith, c.loop-sample.invariant.ends, c.put-end.ensures.ends, c.requires)
 
@@ -27,7 +27,7 @@ loop-sample-preserved g c =
     let r = room_for_code g.K.Coded xs i x c.loop-sample-test.true in
     writes_same
     (ap (λ y. codes_text g.K.Coded (take i xs) [] ++ (32 ∷ []) ++ code g.K.Coded y) c.sample-item.is ∙ codes_more g.K.Coded xs i x c.loop-sample-test.true)
-    (writes_more (omega (arith, c.requires)) (writes_more (omega (arith, c.requires)) c.loop-sample.invariant c.put-end.ensures) c.put-code-end.ensures)
+    (writes_more (omega (arith, c.requires)) (writes_more (omega (arith, c.requires)) c.loop-sample.invariant c.put-end.ensures) c.put_code-end.ensures)
 
 pub returns : goal.returns
 returns g c =

@@ -13,17 +13,17 @@ line-inside l n line h = omega (arith, suc-mul l line, mul-le-mul_right {m = suc
 pub loop-l-init : goal.loop-l-init
 loop-l-init g c = writes_none c.args.at c.args.out.now
 
-pub row-of-requires : goal.row-of-requires
-row-of-requires g c = row_inside c.loop-l.l c.args.rows c.args.columns _ c.loop-l-test.true c.requires.size
+pub row_of-requires : goal.row_of-requires
+row_of-requires g c = row_inside c.loop-l.l c.args.rows c.args.columns _ c.loop-l-test.true c.requires.size
 
-pub put-row-end-requires : goal.put-row-end-requires
-put-row-end-requires g c =
+pub put_row-end-requires : goal.put_row-end-requires
+put_row-end-requires g c =
     let w = suc g.K.Coded.width in
-    let e : length c.row-of.result.now * w ≡ c.args.columns * w = ap (λ n. n * w) c.row-of.ensures.len in
+    let e : length c.row_of.result.now * w ≡ c.args.columns * w = ap (λ n. n * w) c.row_of.ensures.len in
     omega (arith, c.loop-l.invariant.ends, length-rows g.K.Kind g.K.Coded c.args.columns c.args.picture.now 0 c.loop-l.l, line-inside c.loop-l.l c.args.rows (c.args.columns * w + 6) c.loop-l-test.true, c.requires.room)
 
 pub loop-l-preserved : goal.loop-l-preserved
 loop-l-preserved g c =
     writes_same
-    (rows_more g.K.Kind g.K.Coded c.args.columns c.args.picture.now c.loop-l.l c.row-of.result.now c.row-of.ensures.part (row_inside c.loop-l.l c.args.rows c.args.columns _ c.loop-l-test.true c.requires.size))
-    (writes_more (omega (arith, c.requires.room)) c.loop-l.invariant c.put-row-end.ensures)
+    (rows_more g.K.Kind g.K.Coded c.args.columns c.args.picture.now c.loop-l.l c.row_of.result.now c.row_of.ensures.part (row_inside c.loop-l.l c.args.rows c.args.columns _ c.loop-l-test.true c.requires.size))
+    (writes_more (omega (arith, c.requires.room)) c.loop-l.invariant c.put_row-end.ensures)

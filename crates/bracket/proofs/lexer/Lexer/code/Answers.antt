@@ -4,7 +4,7 @@ use Rattle.samples.specs.declared.coded.Coded.{Ghosts as Codes}
 use Rattle.samples.specs.Codes.{all_hex, is_code}
 use Rattle.format.specs.Format.{there, code_word}
 use Rattle.format.specs.Readers.{bad}
-use Rattle.bracket.proofs.OfSteps.{WordsOnly, refuses-mark}
+use Rattle.bracket.proofs.OfSteps.{WordsOnly, refuses_mark}
 use Rattle.bracket.proofs.lexer.Lexer.code.Goals as goal
 
 no_code : {S : Type 0} (C : Codes S) (w : List ℕ) → all_hex w ≡ false → code_word C w ≡ bad 0
@@ -19,7 +19,7 @@ only C = record {
   end = ap there (cond-false (is_code C.width []) _ _ (and_left (eqb 0 C.width) _ (ne_eqb 0 C.width (λ e. omega (arith, C.coding.some_digits)))));
 }
 
-pub returns-in-default : goal.returns-in-default
-returns-in-default g c =
+pub returns-in_default : goal.returns-in_default
+returns-in_default g c =
     let t = c.next.ensures in
-    refuses-mark (code_word g.K.Coded) c.args.self.now c.next.new.self _ _ c.next.result (only g.K.Coded) c.wrong.ensures t.is c.in-default.not-Word c.byte-byte.ensures t.same
+    refuses_mark (code_word g.K.Coded) c.args.self.now c.next.new.self _ _ c.next.result (only g.K.Coded) c.wrong.ensures t.is c.in_default.not-Word c.byte-byte.ensures t.same

@@ -2,50 +2,50 @@ use Rattle.std.proofs.Common.{◌≡◌, ◌<◌, length, refl, arith}
 use Rattle.std.proofs.lemmas.Result.{err_from_is_err_and}
 use Rattle.std.proofs.lemmas.Bool.{ltb-true}
 use Rattle.mojette.specs.Bounds.{most_places}
-use Rattle.bracket.proofs.OfPlaces.{none_read, stops-at-start, stops-at-end, ends, stops_at_line, reads-one}
+use Rattle.bracket.proofs.OfPlaces.{none_read, stops_at_start, stops_at_end, ends, stops_at_line, reads_one}
 use Rattle.bracket.proofs.lexer.Lexer.places.Goals as goal
 
 pub loop-self-init : goal.loop-self-init
 loop-self-init g c = none_read g.K.Kind g.K.Coded c.args.columns c.args.rows c.args.self.now c.args.lines.now
 
-pub returns-in-err-more : goal.returns-in-err-more
-returns-in-err-more g c =
+pub returns-in_err-more : goal.returns-in_err-more
+returns-in_err-more g c =
     let p = err_from_is_err_and c.from-residual.result c.from-residual.ensures.1 in
     rw (p.1, p.2) (record {
-      reads = stops-at-start g.K.Kind g.K.Coded c.args.columns c.args.rows c.args.self.now c.loop-self.self c.loop-self.count c.loop-self.lines c.loop-self.last _ c.loop-self.invariant refl _ c.more.new.self _ c.in-err-more.ensures.reads;
+      reads = stops_at_start g.K.Kind g.K.Coded c.args.columns c.args.rows c.args.self.now c.loop-self.self c.loop-self.count c.loop-self.lines c.loop-self.last _ c.loop-self.invariant refl _ c.more.new.self _ c.in_err-more.ensures.reads;
       few = tt;
     })
 
-pub returns-in-err-line : goal.returns-in-err-line
-returns-in-err-line g c =
-    let p = err_from_is_err_and c.from-residual-in-err-line.result c.from-residual-in-err-line.ensures.1 in
-    let inside : c.loop-self.count < most_places = ltb-true _ _ (c.in-ok-more.ensures.room c.if-branch.true) in
+pub returns-in_err-line : goal.returns-in_err-line
+returns-in_err-line g c =
+    let p = err_from_is_err_and c.from-residual-in_err-line.result c.from-residual-in_err-line.ensures.1 in
+    let inside : c.loop-self.count < most_places = ltb-true _ _ (c.in_ok-more.ensures.room c.if-branch.true) in
     rw (p.1, p.2) (record {
-      reads = stops_at_line g.K.Kind g.K.Coded c.args.columns c.args.rows c.args.self.now c.loop-self.self c.loop-self.count c.loop-self.lines c.loop-self.last _ c.loop-self.invariant refl c.more.new.self _ c.in-ok-more.ensures.reads c.if-branch.true inside _ c.place.new.self _ c.in-err-line.ensures;
+      reads = stops_at_line g.K.Kind g.K.Coded c.args.columns c.args.rows c.args.self.now c.loop-self.self c.loop-self.count c.loop-self.lines c.loop-self.last _ c.loop-self.invariant refl c.more.new.self _ c.in_ok-more.ensures.reads c.if-branch.true inside _ c.place.new.self _ c.in_err-line.ensures;
       few = tt;
     })
 
 pub loop-self-smaller : goal.loop-self-smaller
 loop-self-smaller g c =
-    let inside : c.loop-self.count < most_places = ltb-true _ _ (c.in-ok-more.ensures.room c.if-branch.true) in
+    let inside : c.loop-self.count < most_places = ltb-true _ _ (c.in_ok-more.ensures.room c.if-branch.true) in
     omega arith
 
 pub loop-self-preserved : goal.loop-self-preserved
 loop-self-preserved g c =
-    let inside : c.loop-self.count < most_places = ltb-true _ _ (c.in-ok-more.ensures.room c.if-branch.true) in
+    let inside : c.loop-self.count < most_places = ltb-true _ _ (c.in_ok-more.ensures.room c.if-branch.true) in
     let long : length c.loop-self.lines ≡ most_places = omega (arith, c.requires.room) in
-    reads-one g.K.Kind g.K.Coded c.args.columns c.args.rows c.args.self.now c.loop-self.self c.loop-self.count c.loop-self.lines c.loop-self.last _ c.loop-self.invariant refl c.more.new.self _ c.in-ok-more.ensures.reads c.if-branch.true inside c.place.new.self _ long c.in-ok-line.ensures
+    reads_one g.K.Kind g.K.Coded c.args.columns c.args.rows c.args.self.now c.loop-self.self c.loop-self.count c.loop-self.lines c.loop-self.last _ c.loop-self.invariant refl c.more.new.self _ c.in_ok-more.ensures.reads c.if-branch.true inside c.place.new.self _ long c.in_ok-line.ensures
 
-pub returns-in-err-finish : goal.returns-in-err-finish
-returns-in-err-finish g c =
-    let p = err_from_is_err_and c.from-residual-in-err-finish.result c.from-residual-in-err-finish.ensures.1 in
+pub returns-in_err-finish : goal.returns-in_err-finish
+returns-in_err-finish g c =
+    let p = err_from_is_err_and c.from-residual-in_err-finish.result c.from-residual-in_err-finish.ensures.1 in
     rw (p.1, p.2) (record {
-      reads = stops-at-end g.K.Kind g.K.Coded c.args.columns c.args.rows c.args.self.now c.loop-self.self c.loop-self.count c.loop-self.lines c.loop-self.last _ c.loop-self.invariant refl c.more.new.self _ c.in-ok-more.ensures.reads c.if-branch.false _ c.finish.new.self _ c.in-err-finish.ensures;
+      reads = stops_at_end g.K.Kind g.K.Coded c.args.columns c.args.rows c.args.self.now c.loop-self.self c.loop-self.count c.loop-self.lines c.loop-self.last _ c.loop-self.invariant refl c.more.new.self _ c.in_ok-more.ensures.reads c.if-branch.false _ c.finish.new.self _ c.in_err-finish.ensures;
       few = tt;
     })
 
 pub returns : goal.returns
 returns g c = record {
-  reads = ends g.K.Kind g.K.Coded c.args.columns c.args.rows c.args.self.now c.loop-self.self c.loop-self.count c.loop-self.lines c.loop-self.last _ c.loop-self.invariant refl c.more.new.self _ c.in-ok-more.ensures.reads c.if-branch.false c.finish.new.self c.in-ok-finish.ensures;
+  reads = ends g.K.Kind g.K.Coded c.args.columns c.args.rows c.args.self.now c.loop-self.self c.loop-self.count c.loop-self.lines c.loop-self.last _ c.loop-self.invariant refl c.more.new.self _ c.in_ok-more.ensures.reads c.if-branch.false c.finish.new.self c.in_ok-finish.ensures;
   few = c.loop-self.invariant.few;
 }

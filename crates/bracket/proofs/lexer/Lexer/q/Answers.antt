@@ -13,25 +13,25 @@ use Rattle.bracket.proofs.lexer.Lexer.q.Goals as goal
 held : (p q : ℤ) → SFits w32 p → SFits w32 q → direction_of p q ≡ direction_of (to_z w32 (of_z w32 p)) (to_z w32 (of_z w32 q))
 held p q f g = λ i. direction_of (sym (to_z-of_z w32 p f) i) (sym (to_z-of_z w32 q g) i)
 
-pub returns-then-not-is-lawful : goal.returns-then-not-is-lawful
-returns-then-not-is-lawful c =
+pub returns-then-not-is_lawful : goal.returns-then-not-is_lawful
+returns-then-not-is_lawful c =
     let t = c.in-Word.ensures in
     let f : SFits w32 c.in-Some.q = search rules in
     let d = held c.args.p c.in-Some.q c.ranges.p f in
     let r = refuses (q_word c.args.last c.args.p) c.args.self.now c.next.new.self _
     (ap (λ w. after_last c.args.last c.args.p (numeral w)) (sym t.is.0)
-    ∙ q_unlawful c.args.last c.args.p (numeral c.in-Word.word.now) c.in-Some.q c.in-Some.ensures (ap lawful d ∙ sym c.if-not-is-lawful.ensures))
+    ∙ q_unlawful c.args.last c.args.p (numeral c.in-Word.word.now) c.in-Some.q c.in-Some.ensures (ap lawful d ∙ sym c.if-not-is_lawful.ensures))
     c.byte-byte.ensures t.same in
     record { reads = r; lawful = tt }
 
-pub returns-then-not-is-after : goal.returns-then-not-is-after
-returns-then-not-is-after c =
+pub returns-then-not-is_after : goal.returns-then-not-is_after
+returns-then-not-is_after c =
     let t = c.in-Word.ensures in
     let f : SFits w32 c.in-Some.q = search rules in
     let d = held c.args.p c.in-Some.q c.ranges.p f in
     let r = refuses (q_word c.args.last c.args.p) c.args.self.now c.next.new.self _
     (ap (λ w. after_last c.args.last c.args.p (numeral w)) (sym t.is.0)
-    ∙ q_before c.args.last c.args.p (numeral c.in-Word.word.now) c.in-Some.q c.in-Some.ensures (ap lawful d ∙ sym c.if-not-is-lawful.ensures) (ap (follows c.args.last) d ∙ sym c.if-not-is-after.ensures))
+    ∙ q_before c.args.last c.args.p (numeral c.in-Word.word.now) c.in-Some.q c.in-Some.ensures (ap lawful d ∙ sym c.if-not-is_lawful.ensures) (ap (follows c.args.last) d ∙ sym c.if-not-is_after.ensures))
     c.byte-byte.ensures t.same in
     record { reads = r; lawful = tt }
 
@@ -42,7 +42,7 @@ returns c =
     let d = held c.args.p c.in-Some.q c.ranges.p f in
     let r = accepts (q_word c.args.last c.args.p) c.args.self.now c.next.new.self _
     (ap (λ w. after_last c.args.last c.args.p (numeral w)) (sym t.is.0)
-    ∙ q_after c.args.last c.args.p (numeral c.in-Word.word.now) c.in-Some.q c.in-Some.ensures (ap lawful d ∙ sym c.if-not-is-lawful.ensures) (ap (follows c.args.last) d ∙ sym c.if-not-is-after.ensures)
+    ∙ q_after c.args.last c.args.p (numeral c.in-Word.word.now) c.in-Some.q c.in-Some.ensures (ap lawful d ∙ sym c.if-not-is_lawful.ensures) (ap (follows c.args.last) d ∙ sym c.if-not-is_after.ensures)
     ∙ ap {B = Worth Direction} good d)
     t.rest t.same in
-    record { reads = r; lawful = sym c.if-not-is-lawful.ensures }
+    record { reads = r; lawful = sym c.if-not-is_lawful.ensures }

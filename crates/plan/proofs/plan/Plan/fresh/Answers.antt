@@ -21,5 +21,5 @@ sizes : Sizes 1 1 upright
 sizes zero l = refl
 sizes (suc i) l = absurd (omega arith)
 
-pub invariant-of-result : goal.invariant-of-result
-invariant-of-result c = (lawful, (starts, (sizes, (refl, (lit≤ tt, (lit≤ tt, (lit≤ tt, (lit≤ tt, (lit≤ tt, (lit≤ tt, (lit≤ tt, (lit< tt, tt))))))))))))
+pub invariant_of-result : goal.invariant_of-result
+invariant_of-result c = (lawful, (starts, (sizes, (refl, (lit≤ tt, (lit≤ tt, (lit≤ tt, (lit≤ tt, (lit≤ tt, (lit≤ tt, (lit≤ tt, (lit< tt, tt))))))))))))

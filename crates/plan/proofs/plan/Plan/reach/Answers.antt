@@ -3,26 +3,26 @@ use Rattle.plan.specs.Laid.{place_at}
 use Rattle.plan.proofs.Cells.{size_of}
 use Rattle.plan.proofs.Reaching.{columns_total, rows_total, over, over_whole, over_lost, over_end, plan_most}
 use Rattle.plan.proofs.plan.Plan.reach.Goals as goal
-use Rattle.plan.proofs.plan.Plan.reach.Goals.{then-is-whole, else-is-whole}
+use Rattle.plan.proofs.plan.Plan.reach.Goals.{then-is_whole, else-is_whole}
 
 pub loop-place-init : goal.loop-place-init
 loop-place-init c = let e = c.places-place-items.ensures in (omega (arith, ap (over columns_total) e), omega (arith, ap (over rows_total) e))
 
-pub overflow-add-columns : goal.overflow-add-columns
-overflow-add-columns c =
+pub overflow_add-columns : goal.overflow_add-columns
+overflow_add-columns c =
     let xs = c.places-place-items.result.now in
     let i = c.loop-place.place-index in
     let x = place_at xs i in
     let fits : c.loop-place.columns + x.slope ≤ 112 =
-    omega (arith, c.loop-place.invariant.0, over_whole columns_total xs i c.loop-place-test.true (sym c.is-whole.ensures ∙ c.if-is-whole.true), size_of x.leftward x.slope, plan_most columns_total c.args.self.now) in
+    omega (arith, c.loop-place.invariant.0, over_whole columns_total xs i c.loop-place-test.true (sym c.is_whole.ensures ∙ c.if-is_whole.true), size_of x.leftward x.slope, plan_most columns_total c.args.self.now) in
     search rules
 
-pub overflow-add-rows : goal.overflow-add-rows
-overflow-add-rows c =
+pub overflow_add-rows : goal.overflow_add-rows
+overflow_add-rows c =
     let xs = c.places-place-items.result.now in
     let i = c.loop-place.place-index in
     let fits : c.loop-place.rows + (place_at xs i).q ≤ 112 =
-    omega (arith, c.loop-place.invariant.1, over_whole rows_total xs i c.loop-place-test.true (sym c.is-whole.ensures ∙ c.if-is-whole.true), plan_most rows_total c.args.self.now) in
+    omega (arith, c.loop-place.invariant.1, over_whole rows_total xs i c.loop-place-test.true (sym c.is_whole.ensures ∙ c.if-is_whole.true), plan_most rows_total c.args.self.now) in
     search rules
 
 pub loop-place-preserved : goal.loop-place-preserved
@@ -32,14 +32,14 @@ loop-place-preserved c =
     let x = place_at xs i in
     let l = c.loop-place-test.true in
     let inv = c.loop-place.invariant in
-    elim c.if-is-whole.branch [
-      | then-is-whole w ↦ (
-        omega (arith, w.columns-is, inv.0, over_whole columns_total xs i l (sym c.is-whole.ensures ∙ w.if-is-whole.true), size_of x.leftward x.slope),
-        omega (arith, w.rows-is, inv.1, over_whole rows_total xs i l (sym c.is-whole.ensures ∙ w.if-is-whole.true)),
+    elim c.if-is_whole.branch [
+      | then-is_whole w ↦ (
+        omega (arith, w.columns-is, inv.0, over_whole columns_total xs i l (sym c.is_whole.ensures ∙ w.if-is_whole.true), size_of x.leftward x.slope),
+        omega (arith, w.rows-is, inv.1, over_whole rows_total xs i l (sym c.is_whole.ensures ∙ w.if-is_whole.true)),
       )
-      | else-is-whole w ↦ (
-        omega (arith, w.columns-is, inv.0, over_lost columns_total xs i l (sym c.is-whole.ensures ∙ w.if-is-whole.false)),
-        omega (arith, w.rows-is, inv.1, over_lost rows_total xs i l (sym c.is-whole.ensures ∙ w.if-is-whole.false)),
+      | else-is_whole w ↦ (
+        omega (arith, w.columns-is, inv.0, over_lost columns_total xs i l (sym c.is_whole.ensures ∙ w.if-is_whole.false)),
+        omega (arith, w.rows-is, inv.1, over_lost rows_total xs i l (sym c.is_whole.ensures ∙ w.if-is_whole.false)),
       )
     ]
 

@@ -1,24 +1,24 @@
 use Rattle.std.proofs.Common.{sym, ◌∙◌, arith}
 use Rattle.plan.specs.Shapes.{shape, places_of}
-use Rattle.plan.proofs.Enough.{spark_inside, ghost_stands, place-narrow}
+use Rattle.plan.proofs.Enough.{spark_inside, ghost_stands, place_narrow}
 use Rattle.plan.proofs.Lawful.{place_lawful, plan_sides}
-use Rattle.plan.proofs.Making.{makes-start, makes-whole, makes_lost, makes-end}
+use Rattle.plan.proofs.Making.{makes_start, makes_whole, makes_lost, makes_end}
 use Rattle.plan.proofs.plan.Plan.write_ghost.Goals as goal
-use Rattle.plan.proofs.plan.Plan.write_ghost.Goals.{then-is-whole, else-is-whole}
+use Rattle.plan.proofs.plan.Plan.write_ghost.Goals.{then-is_whole, else-is_whole}
 
-pub write-spark-requires : goal.write-spark-requires
-write-spark-requires g c =
+pub write_spark-requires : goal.write_spark-requires
+write_spark-requires g c =
     let plan = c.args.self.now in
-    record { size = plan_sides plan; room = c.requires.room; inside = omega (arith, spark_inside (shape plan) c.requires.fails, c.spark-column.ensures) }
+    record { size = plan_sides plan; room = c.requires.room; inside = omega (arith, spark_inside (shape plan) c.requires.fails, c.spark_column.ensures) }
 
 pub loop-place-init : goal.loop-place-init
 loop-place-init g c =
     let plan = c.args.self.now in
-    makes-start g.K.Kind plan.columns plan.rows c.places-place-items.result.now (places_of plan) c.spark-column.result c.write-spark.new.picture
-    c.places-place-items.ensures c.spark-column.ensures c.write-spark.ensures.shows
+    makes_start g.K.Kind plan.columns plan.rows c.places-place-items.result.now (places_of plan) c.spark_column.result c.write_spark.new.picture
+    c.places-place-items.ensures c.spark_column.ensures c.write_spark.ensures.shows
 
-pub take-off-requires : goal.take-off-requires
-take-off-requires g c =
+pub take_off-requires : goal.take_off-requires
+take_off-requires g c =
     let plan = c.args.self.now in
     let xs = c.places-place-items.result.now in
     let i = c.loop-place.place-index in
@@ -28,7 +28,7 @@ take-off-requires g c =
       size = plan_sides plan;
       room = omega (arith, c.requires.room);
       direction = place_lawful plan xs i e l;
-      narrow = place-narrow plan xs i e l (sym c.is-whole.ensures ∙ c.if-is-whole.true) c.requires.fails;
+      narrow = place_narrow plan xs i e l (sym c.is_whole.ensures ∙ c.if-is_whole.true) c.requires.fails;
     }
 
 pub loop-place-preserved : goal.loop-place-preserved
@@ -37,12 +37,12 @@ loop-place-preserved g c =
     let xs = c.places-place-items.result.now in
     let i = c.loop-place.place-index in
     let old = c.loop-place.picture in
-    let new = c.if-is-whole.picture in
-    elim c.if-is-whole.branch [
-      | then-is-whole w ↦ makes-whole g.K.Kind plan.columns plan.rows xs (places_of plan) c.write-spark.new.picture i c.loop-place-test.true old new c.loop-place.invariant
-          w.take_off.new.picture (sym c.is-whole.ensures ∙ w.if-is-whole.true) w.picture-is w.take_off.ensures.shows w.take_off.ensures.others
-      | else-is-whole w ↦ makes_lost g.K.Kind plan.columns plan.rows xs (places_of plan) c.write-spark.new.picture i c.loop-place-test.true old new c.loop-place.invariant
-          (sym c.is-whole.ensures ∙ w.if-is-whole.false) w.picture-is
+    let new = c.if-is_whole.picture in
+    elim c.if-is_whole.branch [
+      | then-is_whole w ↦ makes_whole g.K.Kind plan.columns plan.rows xs (places_of plan) c.write_spark.new.picture i c.loop-place-test.true old new c.loop-place.invariant
+          w.take_off.new.picture (sym c.is_whole.ensures ∙ w.if-is_whole.true) w.picture-is w.take_off.ensures.shows w.take_off.ensures.others
+      | else-is_whole w ↦ makes_lost g.K.Kind plan.columns plan.rows xs (places_of plan) c.write_spark.new.picture i c.loop-place-test.true old new c.loop-place.invariant
+          (sym c.is_whole.ensures ∙ w.if-is_whole.false) w.picture-is
     ]
 
 pub returns : goal.returns
@@ -51,6 +51,6 @@ returns g c =
     let old = c.args.picture.now in
     let new = c.loop-place.picture in
     let written =
-    makes-end g.K.Kind plan.columns plan.rows c.places-place-items.result.now (places_of plan) c.write-spark.new.picture c.loop-place.place-index old new
-    c.loop-place-test.false (omega (arith, c.requires.room)) c.write-spark.ensures.others c.loop-place.invariant in
+    makes_end g.K.Kind plan.columns plan.rows c.places-place-items.result.now (places_of plan) c.write_spark.new.picture c.loop-place.place-index old new
+    c.loop-place-test.false (omega (arith, c.requires.room)) c.write_spark.ensures.others c.loop-place.invariant in
     record { written = written; unseen = ghost_stands (shape plan) g.K.Kind plan.lawful c.requires.fails old new written }

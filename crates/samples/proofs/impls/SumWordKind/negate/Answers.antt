@@ -3,4 +3,4 @@ use Rattle.samples.specs.Words.{sum_same}
 use Rattle.samples.proofs.impls.SumWordKind.negate.Goals as goal
 
 pub returns : goal.returns
-returns c = sum_same _ _ (omega (arith, c.wrapping-neg.ensures))
+returns c = sum_same _ _ (omega (arith, c.wrapping_neg.ensures))

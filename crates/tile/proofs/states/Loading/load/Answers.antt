@@ -18,19 +18,19 @@ returns-then-i-places g c picture marks counts queue =
     (tables picture marks c.args.sums.now counts queue) c.total.result c.total.ensures.value c.if-sums-total.false
     (subst (λ n. n ≤ c.args.self.loaded) (ap length c.places-places.ensures ∙ sym (length-map (places_of c.args.plan.now) record_of)) c.if-i-places.true)
 
-pub returns-then-not-fits-plan : goal.returns-then-not-fits-plan
-returns-then-not-fits-plan g c picture marks counts queue =
+pub returns-then-not-fits_plan : goal.returns-then-not-fits_plan
+returns-then-not-fits_plan g c picture marks counts queue =
     load_other g.Sample.Kind (shape c.args.plan.now) (g.S.Source.meaning c.args.source.now) c.args.self.loaded
     (tables picture marks c.args.sums.now counts queue) c.total.result c.total.ensures.value c.if-sums-total.false
     (subst (λ n. c.args.self.loaded < n) (ap length c.places-places.ensures ∙ sym (length-map (places_of c.args.plan.now) record_of)) c.if-i-places.false)
-    c.if-not-fits-plan.ensures
+    c.if-not-fits_plan.ensures
 
-pub write-place-requires : goal.write-place-requires
-write-place-requires g c =
+pub write_place-requires : goal.write_place-requires
+write_place-requires g c =
     let plan = c.args.plan.now in
     let i = c.args.self.loaded in
     let t = turn plan c.places-places.result.now i c.places-places.ensures c.if-i-places.false in
-    let f = fits_at plan (g.S.Source.meaning c.args.source.now) i c.places-places.result.now t c.if-not-fits-plan.ensures in
+    let f = fits_at plan (g.S.Source.meaning c.args.source.now) i c.places-places.result.now t c.if-not-fits_plan.ensures in
     let all = c.total.ensures.value in
     record { place = (f.known, f.size_there); room = omega (arith, t.inside, plan.full, c.if-sums-total.false) }
 
@@ -41,7 +41,7 @@ returns g c picture marks counts queue =
     let i = c.args.self.loaded in
     let x = place_at c.places-places.result.now i in
     let t = turn plan c.places-places.result.now i c.places-places.ensures c.if-i-places.false in
-    let f = fits_at plan m i c.places-places.result.now t c.if-not-fits-plan.ensures in
+    let f = fits_at plan m i c.places-places.result.now t c.if-not-fits_plan.ensures in
     load_served g.Sample.Kind (shape plan) m i (tables picture marks c.args.sums.now counts queue) c.total.result c.total.ensures.value c.if-sums-total.false
     (subst (λ n. i < n) (ap length c.places-places.ensures ∙ sym (length-map (places_of plan) record_of)) c.if-i-places.false)
-    c.if-not-fits-plan.ensures x.start x.bins t.starts f.size c.write-place.new.sums c.write-place.ensures
+    c.if-not-fits_plan.ensures x.start x.bins t.starts f.size c.write_place.new.sums c.write_place.ensures

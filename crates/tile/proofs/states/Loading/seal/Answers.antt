@@ -18,33 +18,33 @@ pub returns-then-self-places : goal.returns-then-self-places
 returns-then-self-places g c =
     let t = tables c.args.picture.now c.args.marks.now c.args.sums.now c.args.counts.now c.args.queue.now in
     let plan = shape c.args.plan.now in
-    seal_early g.K.Kind plan c.args.self.loaded t 0 c.in-default.ensures refl c.count-places.result c.count-places.ensures c.if-self-places.true
+    seal_early g.K.Kind plan c.args.self.loaded t 0 c.in_default.ensures refl c.count-places.result c.count-places.ensures c.if-self-places.true
 
 pub returns-in-Err : goal.returns-in-Err
 returns-in-Err g c =
     let t = tables c.args.picture.now c.args.marks.now c.args.sums.now c.args.counts.now c.args.queue.now in
     let plan = shape c.args.plan.now in
     let judged = c.in-Err.ensures in
-    seal_ghost g.K.Kind plan c.args.self.loaded t 0 c.in-default.ensures refl
+    seal_ghost g.K.Kind plan c.args.self.loaded t 0 c.in_default.ensures refl
     (subst (λ n. n ≤ c.args.self.loaded) c.count-places.ensures c.if-self-places.false) judged.0 c.judge.new.picture judged.1 (refusal_of c.in-Err.fault) judged.2
 
 pub judge-requires : goal.judge-requires
 judge-requires g c =
     let t = tables c.args.picture.now c.args.marks.now c.args.sums.now c.args.counts.now c.args.queue.now in
-    (all_long (shape c.args.plan.now) t c.in-default.ensures).picture
+    (all_long (shape c.args.plan.now) t c.in_default.ensures).picture
 
 pub begin-requires : goal.begin-requires
 begin-requires g c =
     let t = tables c.args.picture.now c.args.marks.now c.args.sums.now c.args.counts.now c.args.queue.now in
-    let long = all_long (shape c.args.plan.now) t c.in-default.ensures in
-    let kept = ap length c.in-default-judge.ensures.1 in
+    let long = all_long (shape c.args.plan.now) t c.in_default.ensures in
+    let kept = ap length c.in_default-judge.ensures.1 in
     record { pixels = (omega (arith, long.picture), long.marks); bins = (long.counts, long.queue) }
 
 pub returns : goal.returns
 returns g c =
     let t = tables c.args.picture.now c.args.marks.now c.args.sums.now c.args.counts.now c.args.queue.now in
-    let judged = c.in-default-judge.ensures in
+    let judged = c.in_default-judge.ensures in
     let last = c.begin.new in
-    seal_served g.K.Kind (shape c.args.plan.now) c.args.self.loaded t 0 c.in-default.ensures refl
+    seal_served g.K.Kind (shape c.args.plan.now) c.args.self.loaded t 0 c.in_default.ensures refl
     (subst (λ n. n ≤ c.args.self.loaded) c.count-places.ensures c.if-self-places.false) judged.0 c.judge.new.picture judged.1
     (world c.begin.result last.picture last.marks c.args.sums.now last.counts last.queue) (c.begin.ensures blank c.args.sums.now)

@@ -39,6 +39,6 @@ pub returns : goal.returns
 returns g c = record {
   step = λ picture marks counts queue.
       finish_served g.K.Kind c.args.plan.now c.args.self.state (tables picture marks c.args.sums.now counts queue)
-      c.total.result c.total.ensures.value c.if-sums-total.false c.if-left-gt0.false c.if-out-gt0.false c.in-default.ensures;
+      c.total.result c.total.ensures.value c.if-sums-total.false c.if-left-gt0.false c.if-out-gt0.false c.in_default.ensures;
   cells = c.pixels.ensures;
 }

@@ -40,7 +40,7 @@ returns c =
       step = λ picture sums marks counts.
           ap (with_ring (tables picture marks sums counts c.args.queue.now))
           (give_back_served plan s c.args.queue.now c.total-bins.result c.total-bins.ensures.value c.if-queue-bins.false b c.if-grant-bins.false
-          c.saturating-sub.result c.saturating-sub.ensures c.append.new.state c.append.new.queue c.append.ensures.state c.append.ensures.queue)
+          c.saturating_sub.result c.saturating_sub.ensures c.append.new.state c.append.new.queue c.append.ensures.state c.append.ensures.queue)
           ∙ sym (give_back_is sum_words plan s (tables picture marks sums counts c.args.queue.now) b);
       grant = tt;
     }

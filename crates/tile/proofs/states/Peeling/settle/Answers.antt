@@ -20,15 +20,15 @@ returns-then-at-total g c =
     let t = tables c.args.picture.now c.args.marks.now c.args.sums.now c.args.counts.now c.args.queue.now in
     let plan = shape c.args.plan.now in
     record {
-      step = settle_beyond g.K.Kind plan c.args.grant.position c.args.self.state t 0 c.in-default.ensures refl
+      step = settle_beyond g.K.Kind plan c.args.grant.position c.args.self.state t 0 c.in_default.ensures refl
           (subst (λ n. n ≤ c.args.grant.position) c.total.ensures.value c.if-at-total.true);
       grant = refl;
     }
 
-pub peel-bin-cell-requires : goal.peel-bin-cell-requires
-peel-bin-cell-requires g c =
+pub peel_bin-cell-requires : goal.peel_bin-cell-requires
+peel_bin-cell-requires g c =
     let t = tables c.args.picture.now c.args.marks.now c.args.sums.now c.args.counts.now c.args.queue.now in
-    let long = all_long (shape c.args.plan.now) t c.in-default.ensures in
+    let long = all_long (shape c.args.plan.now) t c.in_default.ensures in
     record {
       position = subst (λ n. c.args.grant.position < n) c.total.ensures.value c.if-at-total.false;
       pixels = (long.picture, long.marks);
@@ -39,12 +39,12 @@ pub returns : goal.returns
 returns g c =
     let t = tables c.args.picture.now c.args.marks.now c.args.sums.now c.args.counts.now c.args.queue.now in
     let plan = shape c.args.plan.now in
-    let last = c.peel-bin-cell.new in
+    let last = c.peel_bin-cell.new in
     record {
-      step = settle_served g.K.Kind plan c.args.grant.position c.args.self.state t 0 c.in-default.ensures refl
+      step = settle_served g.K.Kind plan c.args.grant.position c.args.self.state t 0 c.in_default.ensures refl
           (subst (λ n. c.args.grant.position < n) c.total.ensures.value c.if-at-total.false)
-          (world last.state last.picture last.marks last.sums last.counts last.queue) c.peel-bin-cell.ensures.world
-          c.peel-bin-cell.result c.peel-bin-cell.ensures.cell
-          c.saturating-sub.result c.saturating-add.result c.saturating-sub.ensures c.saturating-add.ensures;
+          (world last.state last.picture last.marks last.sums last.counts last.queue) c.peel_bin-cell.ensures.world
+          c.peel_bin-cell.result c.peel_bin-cell.ensures.cell
+          c.saturating_sub.result c.saturating_add.result c.saturating_sub.ensures c.saturating_add.ensures;
       grant = tt;
     }

@@ -36,5 +36,5 @@ returns c picture sums marks counts =
     let s = c.args.self.state in
     let plan = shape c.args.plan.now in
     ap (with_ring t) (take_grants plan s c.args.queue.now c.total-bins.result c.total-bins.ensures.value c.if-queue-bins.false c.if-self-eq0.false
-    c.wrapped-cell.result c.wrapped-cell.ensures c.if-position-bins.false c.wrapped.result c.saturating-add.result c.wrapped.ensures c.saturating-add.ensures)
+    c.wrapped-cell.result c.wrapped-cell.ensures c.if-position-bins.false c.wrapped.result c.saturating_add.result c.wrapped.ensures c.saturating_add.ensures)
     ∙ sym (take_is sum_words plan s t)
