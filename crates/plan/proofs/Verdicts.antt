@@ -1,12 +1,12 @@
 -- The first refusal among places, one place after another.
-use Rattle.std.proofs.Common.{◌≡◌, ℕ, suc, ◌+◌, ◌<◌, ◌≤◌, true, false, cond, List, [], ◌∷◌, length, get_or, drop, pos, Some, None, Option, sym, ap, ◌∙◌, add-one}
+use Rattle.std.proofs.Common.{◌≡◌, ℕ, suc, ◌+◌, ◌<◌, ◌≤◌, true, false, cond, List, length, get_or, drop, pos, Some, None, Option, sym, ap, ◌∙◌, add-one}
 use Rattle.std.proofs.lemmas.List.{at_drop_more, at_drop_all}
 use Rattle.std.proofs.lemmas.Bool.{cond-true, cond-false}
 use Rattle.mojette.specs.declared.direction.Direction.{Direction}
 use Rattle.mojette.specs.declared.direction.Record.{Record}
 use Rattle.mojette.specs.Directions.{lawful}
 use Rattle.mojette.specs.Meaning.{follows, places_verdict}
-use Rattle.mojette.specs.Refusals.{Refusal, refusal}
+use Rattle.mojette.specs.Refusals.{refusal}
 
 -- what a list of records says beyond its end
 abbrev pub no_record : Record

@@ -1,13 +1,12 @@
 -- What `project` leaves and answers.
-use Rattle.std.specs.Prelude.{ℕ, ◌*◌, cond, not, ◌&&◌, List, ◌++◌, length, drop, Result, nat_lt}
+use Rattle.std.specs.Prelude.{ℕ, ◌*◌, cond, not, ◌&&◌, List, ◌++◌, length, drop, nat_lt}
 use Rattle.samples.specs.declared.kind.Kind.{Ghosts as Operations}
 use Rattle.mojette.specs.declared.direction.Direction.{Direction}
-use Rattle.mojette.specs.declared.fault.Fault.{Fault}
 use Rattle.mojette.specs.Directions.{lawful}
 use Rattle.mojette.specs.Bins.{bins}
-use Rattle.mojette.specs.Faults.{Outcome, served, refuses, outcome}
+use Rattle.mojette.specs.Faults.{Outcome, served, refuses}
 use Rattle.mojette.specs.Meaning.{side_ok}
-use Rattle.mojette.specs.Refusals.{Refusal, refusal}
+use Rattle.mojette.specs.Refusals.{refusal}
 use Rattle.mojette.specs.Transform.{projection}
 
 -- the answer of a call and the sums that it leaves

@@ -1,7 +1,7 @@
 // Making a plan of a tile's shape.
 ghost use Rattle.std.specs.Prelude.{◌≡◌, ◌≤◌, true, length, None};
 ghost use Rattle.mojette.specs.Faults.{refused};
-ghost use Rattle.mojette.specs.Meaning.{side_ok, places_verdict, follows as FollowsOf};
+ghost use Rattle.mojette.specs.Meaning.{side_ok, places_verdict, follows as follows_of};
 ghost use Rattle.plan.specs.Layouts.{Plans};
 ghost use Rattle.plan.specs.Shapes.{shape};
 
@@ -12,7 +12,7 @@ use mojette::{Direction, Fault, MOST_PLACES, Record};
 
 // Whether a direction stands after the one before it, if there is one.
 fn follows(last: Option<Direction>, direction: Direction) -> bool
-    ensures { result ≡ FollowsOf last direction }
+    ensures { result ≡ follows_of last direction }
 {
     match last {
         None => true,

@@ -1,4 +1,6 @@
 // Plans of tiles, the projection of a picture, Katz's criterion and the ghost.
+#![tactic(auto)]
+
 pub mod criterion;
 pub mod fresh;
 pub mod ghosts;

@@ -1,4 +1,6 @@
 // Sources of projections: three questions, what answers them, and what reads through them.
+#![tactic(auto)]
+
 pub mod lawful;
 pub mod rack;
 pub mod rack_source;

@@ -1,4 +1,4 @@
-use Rattle.std.proofs.Common.{◌≡◌, ◌-◌, ◌*◌, ◌≤◌, nat_abs, arith, rules}
+use Rattle.std.proofs.Common.{◌≡◌, ◌-◌, nat_abs, arith, rules}
 use Rattle.std.proofs.lemmas.Nat.{mul-le}
 use Rattle.plan.proofs.Cells.{steps_most, side_most}
 use Rattle.plan.proofs.lay.bin_count.Goals as goal

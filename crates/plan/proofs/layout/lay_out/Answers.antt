@@ -14,10 +14,10 @@ pub lay-place-requires : goal.lay-place-requires
 lay-place-requires c = record { size = c.requires.size; direction = lawful_at 0 _ c.args.records.now c.requires.places c.loop-i.i c.loop-i-test.true }
 
 -- The bins of the place that is laid.
-size_is : (c : goal.After-struct-known·1) → c.lay-place.result.bins ≡ bins c.args.columns c.args.rows (get_or c.args.records.now c.loop-i.i no_record).direction
+size_is : (c : goal.After-struct_known-1) → c.lay-place.result.bins ≡ bins c.args.columns c.args.rows (get_or c.args.records.now c.loop-i.i no_record).direction
 size_is c = ap (λ x. x.bins) c.lay-place.ensures
 
-size_few : (c : goal.After-struct-known·1) → c.lay-place.result.bins ≤ 883
+size_few : (c : goal.After-struct_known-1) → c.lay-place.result.bins ≤ 883
 size_few c =
     subst (λ n. n ≤ 883) (sym (size_is c))
     (few_bins c.args.columns c.args.rows c.requires.size.0 c.requires.size.1 (get_or c.args.records.now c.loop-i.i no_record).direction (lawful_at 0 _ c.args.records.now c.requires.places c.loop-i.i c.loop-i-test.true))
@@ -63,7 +63,20 @@ invariant_of-result c =
     let b = side_most Q c.requires.size.1 in
     let some = c.requires.number.0 in
     let few = c.requires.number.1 in
-    (lawful, (all.starts, (all.sizes, (total ∙ all.full, (a.0, (a.1, (b.0, (b.1, (some, (few, (omega arith, (omega arith, tt))))))))))))
+    record {
+      lawful = lawful;
+      starts = all.starts;
+      sizes = all.sizes;
+      full = total ∙ all.full;
+      some_columns = a.0;
+      few_columns = a.1;
+      some_rows = b.0;
+      few_rows = b.1;
+      some_places = some;
+      few_places = few;
+      some_bins = omega arith;
+      few_bins = omega arith;
+    }
 
 pub returns : goal.returns
 returns c =

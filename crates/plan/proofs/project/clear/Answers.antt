@@ -1,4 +1,4 @@
-use Rattle.std.proofs.Common.{◌≡◌, ℕ, ◌+◌, ◌<◌, get_or, set, ap, ◌∙◌, subst, arith}
+use Rattle.std.proofs.Common.{get_or, set, ap, ◌∙◌, arith}
 use Rattle.std.proofs.lemmas.List.Edits.{fill_by_more}
 use Rattle.std.proofs.lemmas.List.{drop-set-lt}
 use Rattle.plan.proofs.project.clear.Goals as goal

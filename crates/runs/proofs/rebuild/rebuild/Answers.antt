@@ -17,12 +17,12 @@ returns-in_err-tile g c =
     let K = g.Sample.Kind in
     let m = g.S.Source.meaning c.args.source.now in
     let before = tables c.args.picture.now c.args.marks.now c.args.sums.now c.args.counts.now c.args.queue.now in
-    let p = err_from_is_err_and c.from-residual.result c.from-residual.ensures.1 in
+    let p = err_from_is_err_and c.from_residual.result c.from_residual.ensures.1 in
     let opens = c.in_err-tile.ensures in
-    let run : Rebuilds K m before (answer c.from-residual.result) before = rw (p.1, p.2) (unlawful opens.0) in
+    let run : Rebuilds K m before (answer c.from_residual.result) before = rw (p.1, p.2) (unlawful opens.0) in
     record {
       run = run;
-      exactly = serves_exactly K m before (answer c.from-residual.result) before run;
+      exactly = serves_exactly K m before (answer c.from_residual.result) before run;
       plan = (λ lawful. absurd (never (refusal_of c.in_err-tile.field-0.0) (sym lawful ∙ opens.0)), λ r e. opens.1);
       law = law K;
     }

@@ -6,7 +6,7 @@ use Rattle.source.proofs.rack_source.bin_of.Goals as goal
 
 pub returns-in_err-record : goal.returns-in_err-record
 returns-in_err-record g c =
-    let p = err_from_is_err_and c.from-residual.result c.from-residual.ensures.1 in
+    let p = err_from_is_err_and c.from_residual.result c.from_residual.ensures.1 in
     rw (p.1, p.2)
     (no_place_answer g.K.Kind c.args.plan.now.columns c.args.plan.now.rows c.args.records.now c.args.run.now c.args.i c.args.b
     (refusal_of c.in_err-record.field-0.0) c.in_err-record.ensures)

@@ -9,12 +9,12 @@ use Rattle.source.proofs.strip.strip.Goals as goal
 
 pub returns-in_err-plan : goal.returns-in_err-plan
 returns-in_err-plan g c =
-    let p = err_from_is_err_and c.from-residual.result c.from-residual.ensures.1 in
+    let p = err_from_is_err_and c.from_residual.result c.from_residual.ensures.1 in
     rw (p.1, p.2) (unlawful (g.S.Source.meaning c.args.source.now) c.args.place c.args.out.now (refusal_of c.in_err-plan.field-0.0) c.in_err-plan.ensures)
 
 pub returns-in_err-record : goal.returns-in_err-record
 returns-in_err-record g c =
-    let p = err_from_is_err_and c.from-residual-in_err-record.result c.from-residual-in_err-record.ensures.1 in
+    let p = err_from_is_err_and c.from_residual-in_err-record.result c.from_residual-in_err-record.ensures.1 in
     rw (p.1, p.2)
     (no_place (g.S.Source.meaning c.args.source.now) c.args.place c.args.out.now c.in_ok-plan.ensures.0 (refusal_of c.in_err-record.field-0.0) c.in_err-record.ensures)
 

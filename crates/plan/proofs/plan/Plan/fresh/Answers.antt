@@ -22,4 +22,17 @@ sizes zero l = refl
 sizes (suc i) l = absurd (omega arith)
 
 pub invariant_of-result : goal.invariant_of-result
-invariant_of-result c = (lawful, (starts, (sizes, (refl, (lit≤ tt, (lit≤ tt, (lit≤ tt, (lit≤ tt, (lit≤ tt, (lit≤ tt, (lit≤ tt, (lit< tt, tt))))))))))))
+invariant_of-result c = record {
+  lawful = lawful;
+  starts = starts;
+  sizes = sizes;
+  full = refl;
+  some_columns = lit≤ tt;
+  few_columns = lit≤ tt;
+  some_rows = lit≤ tt;
+  few_rows = lit≤ tt;
+  some_places = lit≤ tt;
+  few_places = lit≤ tt;
+  some_bins = lit≤ tt;
+  few_bins = lit< tt;
+}

@@ -1,6 +1,5 @@
-use Rattle.std.proofs.Common.{◌≡◌, true, sym, ap, ◌∙◌, inl, inr, ⊎_elim}
+use Rattle.std.proofs.Common.{sym, ◌∙◌, inl, inr, ⊎_elim}
 use Rattle.std.proofs.lemmas.Result.{err_from_is_err_and}
-use Rattle.mojette.specs.Meaning.{side_ok}
 use Rattle.plan.proofs.Layouts.{wrong_size, wrong_number, by_places}
 use Rattle.plan.proofs.plan.Plan.of.Goals as goal
 use Rattle.plan.proofs.plan.Plan.of.Goals.{then-not-is_side-via-then-not-is_side, then-not-is_side-via-else-not-is_side+then-not-is_side-2}
@@ -21,7 +20,7 @@ returns-then-records-lt1 c =
 
 pub returns-in_err-check_places : goal.returns-in_err-check_places
 returns-in_err-check_places c =
-    let p = err_from_is_err_and c.from-residual.result c.from-residual.ensures.1 in
+    let p = err_from_is_err_and c.from_residual.result c.from_residual.ensures.1 in
     rw (p.1, p.2)
     (by_places c.args.columns c.args.rows c.args.records.now (sym c.is_side.ensures ∙ c.if-not-is_side.false)
     (sym c.is_side-else-not-is_side.ensures ∙ c.if-not-is_side-2.false) c.if-records-lt1.false c.if-records-gt-MOST_PLACES.false
