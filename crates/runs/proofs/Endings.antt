@@ -1,24 +1,22 @@
 -- How a run ends: at its seal, or at its finish.
-use Rattle.std.proofs.Common.{◌≡◌, ℕ, zero, suc, ◌*◌, ◌<◌, ◌≤◌, Bool, true, false, cond, ltb, ◌⊎◌, ◌↔◌, List, [], ◌∷◌, length, Some, None, Ok, Err, sym, refl, ap, ◌∙◌, subst, inl, inr, ⊎_elim, arith}
-use Rattle.std.proofs.lemmas.Bool.{true≢false, cases_Bool, cond-true, cond-false, le-ltb}
+use Rattle.std.proofs.Common.{◌≡◌, ℕ, zero, suc, ◌*◌, ◌<◌, ◌≤◌, Bool, true, false, cond, ltb, List, [], ◌∷◌, length, Some, None, Ok, Err, sym, refl, ap, ◌∙◌, subst, ⊎_elim, arith}
+use Rattle.std.proofs.lemmas.Bool.{true≢false, cases_Bool, cond-false, le-ltb}
 use Rattle.samples.specs.declared.kind.Kind.{Ghosts as Operations}
 use Rattle.mojette.specs.declared.fault.Table.{Table}
 use Rattle.mojette.specs.Faults.{refusal_of, table_number}
-use Rattle.mojette.specs.Meaning.{Meaning, Agrees, Ghost, Lawful, shape_of, bins_of, pixels_of}
+use Rattle.mojette.specs.Meaning.{Meaning, Ghost, Lawful, shape_of, bins_of, pixels_of}
 use Rattle.mojette.specs.Refusals.{Refusal, refusal}
-use Rattle.peeling.specs.declared.state.State.{State}
-use Rattle.peeling.specs.Counting.{tally, number}
 use Rattle.peeling.specs.History.{out, missing}
 use Rattle.peeling.specs.Steps.{first_left_over, finish_answers, left_over, Finished}
 use Rattle.peeling.specs.Steps as peel
-use Rattle.peeling.proofs.Counts.{tally_zero, tally_at, number_zero}
+use Rattle.peeling.proofs.Counts.{tally_zero, number_zero}
 use Rattle.plan.specs.declared.plan.Plan.{Plan}
 use Rattle.plan.specs.Shapes.{shape}
 use Rattle.law.specs.Law.{T, Found, grants_of, shown, ghosts_remain, WhileLoading, WhilePeeling}
 use Rattle.law.specs.Life.{History, Life, born, event, loaded_places, since_seal, LongEnough}
 use Rattle.law.specs.Life as calls
 use Rattle.law.specs.Positions.{incidence, place_at, bin_at}
-use Rattle.law.specs.Steps.{loading, peeling, finished, Tables, Answer, done, refused, Outcome, criterion, C, R, short, seal, finish, finish_outcome}
+use Rattle.law.specs.Steps.{loading, peeling, finished, Tables, done, refused, Outcome, criterion, C, R, short, seal, finish, finish_outcome}
 use Rattle.law.proofs.Lives.{kept, finish_is}
 use Rattle.law.proofs.Outcome.{law}
 use Rattle.law.proofs.Sealing.{none_short, seal_ghost, seal_accepted}

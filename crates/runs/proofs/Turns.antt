@@ -1,5 +1,5 @@
 -- One call of a run.
-use Rattle.std.proofs.Common.{◌≡◌, ℕ, ◌+◌, ◌-◌, ◌<◌, ◌≤◌, Bool, true, false, eqb, ◌⊎◌, List, ◌∷◌, length, Ok, Err, Option, Result, sym, refl, ap, ◌∙◌, subst, inl, inr, arith}
+use Rattle.std.proofs.Common.{◌≡◌, ℕ, ◌+◌, ◌<◌, true, false, eqb, List, ◌∷◌, length, Ok, Err, Option, sym, refl, ap, ◌∙◌, arith}
 use Rattle.std.proofs.lemmas.Bool.{true≢false, eq-eqb}
 use Rattle.samples.specs.declared.kind.Kind.{Ghosts as Operations}
 use Rattle.samples.specs.Kinds.{sum_words}
@@ -13,7 +13,7 @@ use Rattle.plan.specs.Shapes.{shape}
 use Rattle.law.specs.Law.{T, Waits, grants_of, settles_of}
 use Rattle.law.specs.Life.{History, Life, event, is_served, loaded_places, since_seal}
 use Rattle.law.specs.Life as calls
-use Rattle.law.specs.Steps.{loading, peeling, Tables, Answer, done, granted, settled, refused, Outcome, load, take, settle}
+use Rattle.law.specs.Steps.{loading, peeling, Tables, Answer, done, granted, settled, refused, load, take, settle}
 use Rattle.law.proofs.Lives.{kept}
 use Rattle.law.proofs.Loading.{load_next, records_number}
 use Rattle.law.proofs.Outcome.{law}
@@ -22,7 +22,7 @@ use Rattle.tile.specs.declared.states.Loading.{Loading}
 use Rattle.tile.specs.declared.states.Peeling.{Peeling}
 use Rattle.tile.specs.declared.states.Refused.{Refused}
 use Rattle.tile.specs.Calls.{Loads, Takes, Settles}
-use Rattle.tile.specs.Outcomes.{tables, load_outcome, take_outcome, settle_outcome}
+use Rattle.tile.specs.Outcomes.{tables}
 use Rattle.tile.proofs.Living.{calls_live}
 
 -- a served answer is no refusal

@@ -1,5 +1,5 @@
 -- What rebuilding a tile answers, and what it leaves.
-use Rattle.std.specs.Prelude.{◌≡◌, ℕ, suc, Bool, true, false, ◌↔◌, List, Some, None, Ok, Err, Result}
+use Rattle.std.specs.Prelude.{◌≡◌, ℕ, suc, true, false, ◌↔◌, List, Some, Ok, Err, Result}
 use Rattle.samples.specs.declared.kind.Kind.{Ghosts as Operations}
 use Rattle.mojette.specs.declared.fault.Fault.{Fault}
 use Rattle.mojette.specs.Faults.{refusal_of}
@@ -9,8 +9,8 @@ use Rattle.peeling.specs.declared.state.State.{State}
 use Rattle.plan.specs.declared.plan.Plan.{Plan}
 use Rattle.plan.specs.Shapes.{shape}
 use Rattle.law.specs.Law.{shown}
-use Rattle.law.specs.Life.{History, Life, LongEnough}
-use Rattle.law.specs.Steps.{Stage, loading, peeling, finished, Tables, refused, short, criterion, C, R, finish}
+use Rattle.law.specs.Life.{LongEnough}
+use Rattle.law.specs.Steps.{loading, peeling, finished, Tables, refused, short, criterion, C, R, finish}
 use Rattle.tile.specs.declared.states.Finished.{Finished}
 use Rattle.runs.specs.Runs.{Lived}
 

@@ -1,3 +1,5 @@
 // Whole runs of calls on a tile.
+#![tactic(auto)]
+
 pub mod rebuild;
 mod steps;

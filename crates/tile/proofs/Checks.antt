@@ -4,7 +4,7 @@ use Rattle.std.proofs.lemmas.Bool.{cases_lt, cond-true, cond-false, lt-ltb, le-l
 use Rattle.mojette.specs.declared.fault.Table.{Table}
 use Rattle.mojette.specs.declared.fault.Table.TheVariants.{Picture, Marks, Sums, Counts, Queue}
 use Rattle.mojette.specs.Faults.{table_number}
-use Rattle.mojette.specs.Meaning.{Shape, pixels_of, bins_of}
+use Rattle.mojette.specs.Meaning.{Shape}
 use Rattle.mojette.specs.Refusals.{refusal}
 use Rattle.law.specs.Steps.{Stage, Tables, Outcome, refuse, checked}
 use Rattle.law.specs.Life.{LongEnough}

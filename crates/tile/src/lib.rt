@@ -1,4 +1,6 @@
 // The calls on a tile: the states that they take and hand on, and the tables that they work on.
+#![tactic(auto)]
+
 pub mod counts;
 pub mod finish;
 pub mod lives;

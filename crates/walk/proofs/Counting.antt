@@ -1,13 +1,12 @@
 -- The counts of a place, bin after bin.
-use Rattle.std.proofs.Common.{◌≡◌, ℕ, ◌+◌, ◌-◌, ◌*◌, ◌<◌, ◌≤◌, true, false, cond, ◌&&◌, eqb, ◌⊎◌, sym, refl, ap, ◌∙◌, inl, inr, ⊎_elim, arith}
+use Rattle.std.proofs.Common.{◌≡◌, ℕ, ◌+◌, ◌-◌, ◌*◌, ◌<◌, ◌≤◌, ◌&&◌, ◌⊎◌, sym, ap, ◌∙◌, inl, inr, ⊎_elim, arith}
 use Rattle.std.proofs.lemmas.Bool.{eq-eqb, ne_eqb, cases_lt}
-use Rattle.mojette.specs.Bins.{bins, in_bin, whole}
-use Rattle.peeling.specs.Counting.{number}
+use Rattle.mojette.specs.Bins.{bins, in_bin}
 use Rattle.peeling.proofs.Counts.{number_same, number_zero}
 use Rattle.plan.specs.declared.places.Place.{Place}
-use Rattle.plan.specs.Laid.{direction_of, record_of}
+use Rattle.plan.specs.Laid.{direction_of}
 use Rattle.plan.proofs.Cells.{size_of}
-use Rattle.walk.specs.Counts.{LaidWithin, pixels_of_bin, columns_at}
+use Rattle.walk.specs.Counts.{pixels_of_bin, columns_at}
 use Rattle.walk.specs.Lines.{OnTile}
 use Rattle.walk.proofs.Cells.{pixels_by_rows}
 use Rattle.walk.proofs.Tallies.{in_rows, one_row_on, only_first_row, few_columns, rows_most, down_the_rows, across_the_columns}

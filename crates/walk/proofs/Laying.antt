@@ -3,12 +3,11 @@ use Rattle.std.proofs.Common.{◌≡◌, ℕ, zero, suc, ◌+◌, ◌-◌, ◌*�
 use Rattle.std.proofs.lemmas.List.{length-map}
 use Rattle.std.proofs.lemmas.Int.{ints}
 use Rattle.std.proofs.lemmas.Bool.{and_parts, true≢false}
-use Rattle.mojette.specs.declared.direction.Direction.{Direction}
 use Rattle.mojette.specs.declared.direction.Record.{Record}
-use Rattle.mojette.specs.Bins.{bins, in_bin, whole, start, all_bins}
+use Rattle.mojette.specs.Bins.{bins, in_bin, whole, start}
 use Rattle.mojette.specs.Directions.{gcd, lawful, all_lawful}
-use Rattle.mojette.specs.Meaning.{Shape, bins_of}
-use Rattle.katz.proofs.Bezout.{Bezout, bezout_coprime, times, first_is, second_is}
+use Rattle.mojette.specs.Meaning.{bins_of}
+use Rattle.katz.proofs.Bezout.{bezout_coprime, times, first_is, second_is}
 use Rattle.katz.proofs.Lawful.{lawful_is}
 use Rattle.law.specs.Opening.{directions_of}
 use Rattle.law.specs.Positions.{incidence, place_at, bin_at}

@@ -1,5 +1,5 @@
 -- Where a pixel lies among the positions of a place.
-use Rattle.std.proofs.Common.{◌≡◌, ℕ, ◌+◌, ◌-◌, ◌*◌, ◌%◌, ◌^◌, ◌<◌, ◌≤◌, true, false, ◌&&◌, ◌⊎◌, length, sym, ap, ◌∙◌, subst, inl, inr, mod-eq_of_lt, arith}
+use Rattle.std.proofs.Common.{◌≡◌, ℕ, ◌+◌, ◌-◌, ◌%◌, ◌^◌, ◌<◌, true, false, ◌⊎◌, length, sym, ap, ◌∙◌, subst, inl, inr, mod-eq_of_lt, arith}
 use Rattle.std.proofs.lemmas.Bool.{and_right, and_from, eq-eqb, cases_Bool}
 use Rattle.mojette.specs.Bins.{in_bin, whole}
 use Rattle.law.specs.Positions.{incidence}
@@ -11,7 +11,7 @@ use Rattle.plan.specs.Shapes.{shape, places_of}
 use Rattle.plan.proofs.Cells.{bin_inside, lies_there, lies_only_there}
 use Rattle.walk.specs.declared.pixel.Pixel.{Pixel}
 use Rattle.walk.specs.Finding.{OfTile}
-use Rattle.walk.specs.Lying.{starts, Lies, LiesWherever}
+use Rattle.walk.specs.Lying.{Lies, LiesWherever}
 use Rattle.walk.proofs.Laying.{bins_are, start_is, next_is, ends_inside, lies_is}
 
 module _ (plan : Plan) (i : ℕ) (l : i < length (places_of plan)) (pixel : Pixel) (of : OfTile plan.columns plan.rows pixel) where

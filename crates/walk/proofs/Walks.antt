@@ -1,9 +1,9 @@
 -- The walk along the pixels of a bin: to the first, and from one to the next.
-use Rattle.std.proofs.Common.{◌≡◌, ℕ, zero, suc, ◌+◌, ◌-◌, ◌*◌, ◌/◌, ◌<◌, ◌≤◌, Bool, true, false, ◌⊎◌, is_some, Some, None, Option, sym, refl, ap, ◌∙◌, subst, inl, inr, ⊎_elim, arith, MatchOption}
+use Rattle.std.proofs.Common.{◌≡◌, ℕ, zero, suc, ◌+◌, ◌-◌, ◌*◌, ◌/◌, ◌<◌, ◌≤◌, Bool, true, false, ◌⊎◌, is_some, Some, None, Option, ap, ◌∙◌, subst, inl, inr, ⊎_elim, arith, MatchOption}
 use native.Mathlib.Nat.{div-le_of_le-mul}
-use Rattle.std.proofs.lemmas.Nat.{mul-le, mul-add-lt, div_below, le-div}
+use Rattle.std.proofs.lemmas.Nat.{mul-le, div_below, le-div}
 use Rattle.std.proofs.lemmas.Bool.{cases_lt, both_ways, true≢false, false≢true}
-use Rattle.walk.specs.Lines.{Coprime, OnTile, Ahead, Corner, First, Empty, Alone, NoneAlone, cell_of}
+use Rattle.walk.specs.Lines.{OnTile, Ahead, Corner, Alone, NoneAlone}
 
 positive : (a b n : ℕ) → n < a * b → 0 < b
 positive a zero n l = absurd (omega arith)

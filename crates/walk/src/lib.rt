@@ -1,4 +1,6 @@
 // The pixels of a bin: finding the one that is missing, and counting them.
+#![tactic(auto)]
+
 pub mod counts;
 pub mod lines;
 pub mod lookups;

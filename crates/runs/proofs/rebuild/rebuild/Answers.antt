@@ -1,4 +1,4 @@
-use Rattle.std.proofs.Common.{◌≡◌, ℕ, Some, None, Err, sym, ◌∙◌, subst, arith}
+use Rattle.std.proofs.Common.{◌≡◌, ℕ, Some, None, sym, ◌∙◌, arith}
 use Rattle.std.proofs.lemmas.Result.{err_from_is_err_and}
 use Rattle.mojette.specs.Faults.{refusal_of}
 use Rattle.mojette.specs.Refusals.{Refusal}
@@ -14,7 +14,7 @@ never r e = let z : ◌≡◌ {A = ℕ} 0 1 = cc in omega arith
 
 pub returns-in_err-tile : goal.returns-in_err-tile
 returns-in_err-tile g c =
-    let K = g.Sample.Kind in
+    let K = g.S.Sample.Kind in
     let m = g.S.Source.meaning c.args.source.now in
     let before = tables c.args.picture.now c.args.marks.now c.args.sums.now c.args.counts.now c.args.queue.now in
     let p = err_from_is_err_and c.from_residual.result c.from_residual.ensures.1 in
@@ -29,7 +29,7 @@ returns-in_err-tile g c =
 
 pub returns : goal.returns
 returns g c =
-    let K = g.Sample.Kind in
+    let K = g.S.Sample.Kind in
     let m = g.S.Source.meaning c.args.source.now in
     let before = tables c.args.picture.now c.args.marks.now c.args.sums.now c.args.counts.now c.args.queue.now in
     let after = tables c.run.new.picture c.run.new.marks c.run.new.sums c.run.new.counts c.run.new.queue in

@@ -4,7 +4,7 @@ use Rattle.runs.proofs.rebuild.run.Goals as goal
 
 pub returns-in-Some : goal.returns-in-Some
 returns-in-Some g c =
-    let K = g.Sample.Kind in
+    let K = g.S.Sample.Kind in
     let m = g.S.Source.meaning c.args.source.now in
     let plan = c.args.plan.now in
     let own = c.requires.own in
@@ -13,7 +13,7 @@ returns-in-Some g c =
 
 pub unreachable-requires : goal.unreachable-requires
 unreachable-requires g c =
-    let K = g.Sample.Kind in
+    let K = g.S.Sample.Kind in
     let m = g.S.Source.meaning c.args.source.now in
     let plan = c.args.plan.now in
     let own = c.requires.own in
@@ -26,7 +26,7 @@ unreachable-requires g c =
 
 pub returns-in-Err : goal.returns-in-Err
 returns-in-Err g c =
-    let K = g.Sample.Kind in
+    let K = g.S.Sample.Kind in
     let m = g.S.Source.meaning c.args.source.now in
     let plan = c.args.plan.now in
     let own = c.requires.own in
@@ -41,7 +41,7 @@ returns-in-Err g c =
 
 pub unreachable-requires-in-Err-peel_all : goal.unreachable-requires-in-Err-peel_all
 unreachable-requires-in-Err-peel_all g c =
-    let K = g.Sample.Kind in
+    let K = g.S.Sample.Kind in
     let m = g.S.Source.meaning c.args.source.now in
     let plan = c.args.plan.now in
     let own = c.requires.own in
@@ -59,7 +59,7 @@ unreachable-requires-in-Err-peel_all g c =
 
 pub returns-in-Ok-finish : goal.returns-in-Ok-finish
 returns-in-Ok-finish g c =
-    let K = g.Sample.Kind in
+    let K = g.S.Sample.Kind in
     let m = g.S.Source.meaning c.args.source.now in
     let plan = c.args.plan.now in
     let own = c.requires.own in
@@ -79,7 +79,7 @@ returns-in-Ok-finish g c =
 
 pub returns-in-Err-finish : goal.returns-in-Err-finish
 returns-in-Err-finish g c =
-    let K = g.Sample.Kind in
+    let K = g.S.Sample.Kind in
     let m = g.S.Source.meaning c.args.source.now in
     let plan = c.args.plan.now in
     let own = c.requires.own in

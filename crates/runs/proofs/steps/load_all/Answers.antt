@@ -1,4 +1,4 @@
-use Rattle.std.proofs.Common.{◌≡◌, ◌+◌, ◌∷◌, ap, ◌∙◌, arith}
+use Rattle.std.proofs.Common.{◌+◌, ◌∷◌, ap, ◌∙◌, arith}
 use Rattle.law.specs.Life.{event}
 use Rattle.law.specs.Life as calls
 use Rattle.law.specs.Steps.{done}
@@ -7,7 +7,7 @@ use Rattle.runs.proofs.steps.load_all.Goals as goal
 
 pub returns-in_err-tile : goal.returns-in_err-tile
 returns-in_err-tile g c = λ own picture marks counts queue h life zero.
-    let K = g.Sample.Kind in
+    let K = g.S.Sample.Kind in
     let m = g.S.Source.meaning c.args.source.now in
     let plan = c.args.plan.now in
     let w = c.loop-i.invariant own picture marks counts queue h life zero in
@@ -19,7 +19,7 @@ loop-i-init g c = λ own picture marks counts queue h life zero. (h, life, zero)
 
 pub loop-i-preserved : goal.loop-i-preserved
 loop-i-preserved g c = λ own picture marks counts queue h life zero.
-    let K = g.Sample.Kind in
+    let K = g.S.Sample.Kind in
     let m = g.S.Source.meaning c.args.source.now in
     let w = c.loop-i.invariant own picture marks counts queue h life zero in (
       event calls.loads done ∷ w.0,
@@ -30,7 +30,7 @@ loop-i-preserved g c = λ own picture marks counts queue h life zero.
 
 pub returns : goal.returns
 returns g c = λ own picture marks counts queue h life zero.
-    let K = g.Sample.Kind in
+    let K = g.S.Sample.Kind in
     let m = g.S.Source.meaning c.args.source.now in
     let w = c.loop-i.invariant own picture marks counts queue h life zero in
     (w.0, w.1, omega (arith, w.2, c.loop-i-test.false, c.loop-i.auto.i-end, c.count-i-end.ensures, same_number K m c.args.plan.now own))

@@ -1,4 +1,4 @@
-use Rattle.std.proofs.Common.{◌≡◌, ℕ, ◌+◌, ◌<◌, true, false, length, sym, ap, ◌∙◌, arith, rules}
+use Rattle.std.proofs.Common.{◌+◌, ◌<◌, true, false, length, ap, ◌∙◌, arith, rules}
 use Rattle.mojette.specs.Meaning.{bins_of}
 use Rattle.plan.specs.Laid.{place_at}
 use Rattle.plan.specs.Shapes.{shape}

@@ -1,4 +1,4 @@
-use Rattle.std.proofs.Common.{◌≡◌, length, sym, refl, ap, ◌∙◌, arith}
+use Rattle.std.proofs.Common.{length, sym, refl, ap, ◌∙◌, arith}
 use Rattle.peeling.specs.Steps.{world, take_off_all}
 use Rattle.plan.specs.Shapes.{shape}
 use Rattle.law.specs.Positions.{incidence}
@@ -14,8 +14,8 @@ loop-i-init g c p m = refl
 pub take_off-requires : goal.take_off-requires
 take_off-requires g c =
     let plan = c.args.plan.now in
-    let t = turn plan c.places-places.result.now c.loop-i.-i c.places-places.ensures c.loop-i-test.true in
-    let lies = lies_here plan c.places-places.result.now c.loop-i.-i c.args.pixel c.bin_at-at.result c.columns-columns.result c.rows-rows.result t
+    let t = turn plan c.places-places.result.now c.loop-i._i c.places-places.ensures c.loop-i-test.true in
+    let lies = lies_here plan c.places-places.result.now c.loop-i._i c.args.pixel c.bin_at-at.result c.columns-columns.result c.rows-rows.result t
     c.columns-columns.ensures c.rows-rows.ensures c.requires.pixel c.bin_at-at.ensures.lies in
     let all = c.total-bins.ensures.value in
     let room = c.requires.room in
@@ -32,7 +32,7 @@ pub loop-i-preserved : goal.loop-i-preserved
 loop-i-preserved g c p m =
     let K = g.K.Kind in
     let plan = c.args.plan.now in
-    let i = c.loop-i.-i in
+    let i = c.loop-i._i in
     let cell = c.args.pixel.cell in
     let v = c.args.v in
     let t = turn plan c.places-places.result.now i c.places-places.ensures c.loop-i-test.true in
@@ -56,7 +56,7 @@ pub returns : goal.returns
 returns g c p m =
     let plan = c.args.plan.now in
     let e = ap length c.places-places.ensures in
-    let all = all_starts plan c.loop-i.-i (omega (arith, c.loop-i.auto.-i-end)) (omega (arith, c.loop-i-test.false)) in
+    let all = all_starts plan c.loop-i._i (omega (arith, c.loop-i.auto._i-end)) (omega (arith, c.loop-i-test.false)) in
     c.loop-i.invariant p m
     ∙ ap (λ n. take_off_all g.K.Kind (incidence (shape plan)) c.args.pixel.cell c.args.v n
     (world c.args.state.now p m c.args.sums.now c.args.counts.now c.args.queue.now)) all

@@ -1,4 +1,4 @@
-use Rattle.std.proofs.Common.{◌≡◌, ◌∙◌}
+use Rattle.std.proofs.Common.{◌∙◌}
 use Rattle.plan.specs.Shapes.{shape}
 use Rattle.tile.proofs.Sealing.{counted_is, begins}
 use Rattle.tile.proofs.seal.begin.Goals as goal

@@ -1,4 +1,4 @@
-use Rattle.std.proofs.Common.{◌≡◌, ℕ, List, ◌∙◌, ap₂}
+use Rattle.std.proofs.Common.{ℕ, List, ◌∙◌, ap₂}
 use Rattle.peeling.specs.declared.state.State.{State}
 use Rattle.tile.proofs.Sealing.{singles_none, singles_more, singles_same}
 use Rattle.tile.proofs.seal.queue_singles.Goals as goal

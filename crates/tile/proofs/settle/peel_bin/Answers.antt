@@ -1,4 +1,4 @@
-use Rattle.std.proofs.Common.{◌≡◌, ◌<◌, length, set, arith, rules}
+use Rattle.std.proofs.Common.{◌<◌, length, set, arith, rules}
 use Rattle.katz.proofs.Pixels.{cell_below}
 use Rattle.mojette.specs.Meaning.{pixels_of}
 use Rattle.peeling.specs.Steps.{world}

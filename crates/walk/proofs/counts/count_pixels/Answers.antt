@@ -1,12 +1,11 @@
-use Rattle.std.proofs.Common.{◌≡◌, ◌<◌, length, sym, ap, ◌∙◌, subst, arith}
+use Rattle.std.proofs.Common.{◌<◌, length, sym, ap, ◌∙◌, subst, arith}
 use Rattle.std.proofs.lemmas.Bool.{cond-false, le-ltb}
-use Rattle.mojette.specs.Bins.{start}
 use Rattle.mojette.specs.Meaning.{pixels_of, bins_of}
 use Rattle.peeling.specs.Counting.{number}
 use Rattle.peeling.specs.Steps.{filled}
 use Rattle.law.specs.Positions.{incidence}
 use Rattle.plan.specs.Laid.{place_at as nth}
-use Rattle.plan.specs.Shapes.{shape, places_of}
+use Rattle.plan.specs.Shapes.{shape}
 use Rattle.walk.proofs.Laying.{all_starts}
 use Rattle.walk.proofs.Places.{laid_within, one_place_more}
 use Rattle.law.proofs.Writing.{filled_none}

@@ -1,4 +1,4 @@
-use Rattle.std.proofs.Common.{◌≡◌, ◌+◌, ◌-◌, ◌*◌, ◌<◌, ◌≤◌, length, get_or, sym, ap, ◌∙◌, inl, inr, arith, rules}
+use Rattle.std.proofs.Common.{◌+◌, ◌-◌, ◌*◌, ◌<◌, get_or, ap, ◌∙◌, inl, inr, arith, rules}
 use Rattle.std.proofs.lemmas.Nat.{mul-le}
 use Rattle.mojette.specs.Bounds.{most_side, most_step}
 use Rattle.walk.specs.Counts.{pixels_of_bin}

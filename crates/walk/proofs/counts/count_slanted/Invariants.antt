@@ -1,4 +1,4 @@
-use Rattle.std.proofs.Common.{◌≡◌, ◌*◌}
+use Rattle.std.proofs.Common.{◌≡◌}
 use Rattle.law.specs.Steps.{written}
 use Rattle.walk.specs.Counts.{pixels_of_bin, Next}
 use Rattle.walk.proofs.counts.count_slanted.Given as goal

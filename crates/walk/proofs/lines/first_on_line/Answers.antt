@@ -1,4 +1,4 @@
-use Rattle.std.proofs.Common.{◌-◌, arith}
+use Rattle.std.proofs.Common.{arith}
 use Rattle.walk.proofs.Walks.{past, short}
 use Rattle.walk.proofs.lines.first_on_line.Goals as goal
 

@@ -1,6 +1,6 @@
-use Rattle.std.proofs.Common.{◌≡◌, ◌+◌, ◌<◌, ◌≤◌, true, false, eqb, ◌⊎◌, get_or, Some, None, sym, refl, ap, ◌∙◌, subst, inl, inr, arith, rules}
+use Rattle.std.proofs.Common.{◌≡◌, ◌+◌, ◌<◌, ◌≤◌, ◌⊎◌, get_or, sym, subst, inl, inr, arith, rules}
 use Rattle.std.proofs.lemmas.Bool.{eq-eqb, ne_eqb}
-use Rattle.walk.specs.Lines.{open_at, cell_of}
+use Rattle.walk.specs.Lines.{open_at}
 use Rattle.walk.proofs.Cells.{cell_inside}
 use Rattle.walk.proofs.Walks.{After, turn_first, turn_stops, turn_on, turn_goes_on, turn_ends, still_on}
 use Rattle.walk.proofs.lines.lone_on_line.Goals as goal

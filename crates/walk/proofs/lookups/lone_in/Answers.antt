@@ -1,7 +1,6 @@
-use Rattle.std.proofs.Common.{◌≡◌, ◌+◌, ◌-◌, ◌*◌, ◌<◌, sym, refl, ap, ◌∙◌, arith}
+use Rattle.std.proofs.Common.{◌≡◌, ◌+◌, ◌-◌, ◌*◌, sym, refl, ap, ◌∙◌, arith}
 use Rattle.std.proofs.lemmas.Bool.{cond-true, cond-false}
 use Rattle.plan.specs.Laid.{turned}
-use Rattle.walk.specs.Finding.{pixel_in}
 use Rattle.walk.specs.Lines.{cell_of}
 use Rattle.walk.proofs.Cells.{turned_inside, column_is, row_is, miss, one_missing, not_one_missing}
 use Rattle.walk.proofs.Finding.{alone_is, none_alone}

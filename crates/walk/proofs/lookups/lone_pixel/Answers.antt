@@ -3,7 +3,7 @@ use Rattle.plan.specs.Laid.{place_at as nth}
 use Rattle.plan.specs.Shapes.{places_of}
 use Rattle.walk.specs.Finding.{OfTile}
 use Rattle.walk.specs.Lines.{OnTile}
-use Rattle.walk.proofs.Finding.{lone_in-whole, none_in_lost}
+use Rattle.walk.proofs.Finding.{lone_in_whole, none_in_lost}
 use Rattle.walk.proofs.Laying.{on_tile}
 use Rattle.walk.proofs.lookups.lone_pixel.Goals as goal
 
@@ -34,7 +34,7 @@ lone_in-requires c =
 pub returns : goal.returns
 returns c =
     record {
-      is = lone_in-whole c.args.plan.now c.args.marks.now c.args.at c.in-Some.i c.in-Some.bin c.in-Some.ensures.stands
+      is = lone_in_whole c.args.plan.now c.args.marks.now c.args.at c.in-Some.i c.in-Some.bin c.in-Some.ensures.stands
           (omega (arith, c.pixels.ensures, c.if-marks-pixels.false)) (nth c.places.result.now c.in-Some.i) (ap (λ ys. nth ys c.in-Some.i) c.places.ensures)
           c.columns.result c.rows.result c.lone_in.result c.columns.ensures c.rows.ensures c.if-place-ne0.false c.lone_in.ensures.is;
       pixel = subst (λ P. IfSome c.lone_in.result (OfTile P c.args.plan.now.rows)) c.columns.ensures

@@ -1,5 +1,4 @@
-use Rattle.std.proofs.Common.{◌≡◌, ◌+◌, ◌-◌, ◌<◌, length, sym, ap, ◌∙◌, arith, rules}
-use Rattle.mojette.specs.Meaning.{bins_of}
+use Rattle.std.proofs.Common.{◌≡◌, ◌+◌, ◌-◌, ◌<◌, length, ap, ◌∙◌, arith, rules}
 use Rattle.law.specs.Positions.{place_at, bin_at}
 use Rattle.plan.specs.Laid.{records_of}
 use Rattle.plan.specs.Laid.{place_at as nth}

@@ -1,4 +1,4 @@
-use Rattle.std.proofs.Common.{◌≡◌, ◌<◌, ◌≤◌, length, sym, ap, ◌∙◌, subst, arith}
+use Rattle.std.proofs.Common.{◌<◌, ◌≤◌, length, sym, ap, ◌∙◌, subst, arith}
 use Rattle.std.proofs.lemmas.List.{length-map}
 use Rattle.plan.specs.Laid.{place_at, record_of}
 use Rattle.plan.specs.Shapes.{shape, places_of}
@@ -9,18 +9,18 @@ use Rattle.tile.proofs.states.Loading.load.Goals as goal
 
 pub returns-then-sums-total : goal.returns-then-sums-total
 returns-then-sums-total g c picture marks counts queue =
-    load_short g.Sample.Kind (shape c.args.plan.now) (g.S.Source.meaning c.args.source.now) c.args.self.loaded
+    load_short g.S.Sample.Kind (shape c.args.plan.now) (g.S.Source.meaning c.args.source.now) c.args.self.loaded
     (tables picture marks c.args.sums.now counts queue) c.total.result c.total.ensures.value c.if-sums-total.true
 
 pub returns-then-i-places : goal.returns-then-i-places
 returns-then-i-places g c picture marks counts queue =
-    load_all g.Sample.Kind (shape c.args.plan.now) (g.S.Source.meaning c.args.source.now) c.args.self.loaded
+    load_all g.S.Sample.Kind (shape c.args.plan.now) (g.S.Source.meaning c.args.source.now) c.args.self.loaded
     (tables picture marks c.args.sums.now counts queue) c.total.result c.total.ensures.value c.if-sums-total.false
     (subst (λ n. n ≤ c.args.self.loaded) (ap length c.places-places.ensures ∙ sym (length-map (places_of c.args.plan.now) record_of)) c.if-i-places.true)
 
 pub returns-then-not-fits_plan : goal.returns-then-not-fits_plan
 returns-then-not-fits_plan g c picture marks counts queue =
-    load_other g.Sample.Kind (shape c.args.plan.now) (g.S.Source.meaning c.args.source.now) c.args.self.loaded
+    load_other g.S.Sample.Kind (shape c.args.plan.now) (g.S.Source.meaning c.args.source.now) c.args.self.loaded
     (tables picture marks c.args.sums.now counts queue) c.total.result c.total.ensures.value c.if-sums-total.false
     (subst (λ n. c.args.self.loaded < n) (ap length c.places-places.ensures ∙ sym (length-map (places_of c.args.plan.now) record_of)) c.if-i-places.false)
     c.if-not-fits_plan.ensures
@@ -42,6 +42,6 @@ returns g c picture marks counts queue =
     let x = place_at c.places-places.result.now i in
     let t = turn plan c.places-places.result.now i c.places-places.ensures c.if-i-places.false in
     let f = fits_at plan m i c.places-places.result.now t c.if-not-fits_plan.ensures in
-    load_served g.Sample.Kind (shape plan) m i (tables picture marks c.args.sums.now counts queue) c.total.result c.total.ensures.value c.if-sums-total.false
+    load_served g.S.Sample.Kind (shape plan) m i (tables picture marks c.args.sums.now counts queue) c.total.result c.total.ensures.value c.if-sums-total.false
     (subst (λ n. i < n) (ap length c.places-places.ensures ∙ sym (length-map (places_of plan) record_of)) c.if-i-places.false)
     c.if-not-fits_plan.ensures x.start x.bins t.starts f.size c.write_place.new.sums c.write_place.ensures

@@ -1,4 +1,4 @@
-use Rattle.std.proofs.Common.{◌≡◌, ◌≤◌, length, refl, ap, subst, arith}
+use Rattle.std.proofs.Common.{◌≤◌, length, refl, ap, subst, arith}
 use Rattle.peeling.specs.Steps.{world}
 use Rattle.mojette.specs.Faults.{refusal_of}
 use Rattle.plan.specs.Shapes.{shape}

@@ -1,4 +1,4 @@
-use Rattle.std.proofs.Common.{◌≡◌, ◌<◌, ◌≤◌, sym, refl, ap, ◌∙◌, subst}
+use Rattle.std.proofs.Common.{◌<◌, ◌≤◌, refl, subst}
 use Rattle.peeling.specs.Steps.{world}
 use Rattle.plan.specs.Shapes.{shape}
 use Rattle.tile.specs.Outcomes.{tables}

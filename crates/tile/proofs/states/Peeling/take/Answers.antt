@@ -1,4 +1,4 @@
-use Rattle.std.proofs.Common.{◌≡◌, sym, ap, ◌∙◌}
+use Rattle.std.proofs.Common.{sym, ap, ◌∙◌}
 use Rattle.samples.specs.Kinds.{sum_words}
 use Rattle.plan.specs.Shapes.{shape}
 use Rattle.tile.specs.Outcomes.{tables}
