@@ -1,4 +1,6 @@
 // Projects a small picture, drops recorders, and rebuilds the picture from what is left.
+#![tactic(auto)]
+
 use mojette::{Direction, Fault, Record};
 use plan::Plan;
 use plan::project::project;

@@ -134,10 +134,10 @@ fn case_of<K: Coded>(
     words: &mut Words,
     out: &mut String,
 ) -> anyhow::Result<()> {
-    if set == b"project" {
+    if set == b"project".as_slice() {
         return project_case::<K>(heap, words, out);
     }
-    if set == b"ghost" {
+    if set == b"ghost".as_slice() {
         return ghost_case::<K>(heap, words, out);
     }
     let question = words.natural();

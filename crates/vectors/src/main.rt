@@ -1,4 +1,6 @@
 // Runs the cases of the outside reference, one a line, and prints each answer.
+#![tactic(auto)]
+
 mod cases;
 mod lists;
 mod shows;
