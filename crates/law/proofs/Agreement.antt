@@ -1,6 +1,6 @@
 -- A tile agrees with a source place by place exactly when it does position by position.
 use Rattle.std.proofs.Common.{◌≡◌, ℕ, ◌+◌, ◌*◌, ◌<◌, true, cond, ◌&&◌, List, [], ◌∷◌, map, get_or, sym, ap, ◌∙◌, arith}
-use Rattle.std.specs.List.{AllByRecursion as All}
+use Rattle.std.specs.List.{AllByRecursion}
 use Rattle.samples.specs.declared.kind.Kind.{Ghosts as Operations}
 use Rattle.samples.specs.Sums.{sum_below}
 use Rattle.mojette.specs.declared.direction.Record.{Record}
@@ -41,7 +41,7 @@ module _ {S : Type 0} (K : Operations S) (m : Meaning S) where
     AtPositions places = (x : ℕ) → x < all_bins m.P m.Q (records places) → whole_at m.P m.Q (records places) x ≡ true
         → sum_in (records places) x ≡ sum_at m.P m.Q K.zero places x
 
-    to_positions : (places : List (Place S)) → All PlaceAgrees places → AtPositions places
+    to_positions : (places : List (Place S)) → AllByRecursion PlaceAgrees places → AtPositions places
     to_positions [] all x l w = absurd (omega arith)
     to_positions (a ∷ rest) all x l w = go (split m.P m.Q a.entry (records rest) x l) (to_positions rest all.1) w
       where
@@ -55,7 +55,7 @@ module _ {S : Type 0} (K : Operations S) (m : Meaning S) where
             ∙ later y k (sym (whole_there m.P m.Q a.entry (records rest) y) ∙ w)
             ∙ sym (sum_there m.P m.Q K.zero a rest y)
 
-    from_positions : (places : List (Place S)) → AtPositions places → All PlaceAgrees places
+    from_positions : (places : List (Place S)) → AtPositions places → AllByRecursion PlaceAgrees places
     from_positions [] at = tt
     from_positions (a ∷ rest) at = (
       (λ w b l.

@@ -1,6 +1,6 @@
 -- Ghosts of a source are the ghosts of the directions of its whole places.
 use Rattle.std.proofs.Common.{◌≡◌, ℕ, ◌*◌, ◌<◌, ◌≤◌, Bool, true, false, cond, List, [], ◌∷◌, map, length, take as first, sym, refl, ◌∙◌, subst, arith}
-use Rattle.std.specs.List.{AllByRecursion as All}
+use Rattle.std.specs.List.{AllByRecursion}
 use Rattle.std.proofs.lemmas.List.FromFn.{length-map-range_with_len, get_or-map-range_with_len}
 use Rattle.std.proofs.lemmas.List.{get_or-take, length-take-le, ext_get_or}
 use Rattle.std.proofs.lemmas.Bool.{both_ways}
@@ -28,22 +28,22 @@ module _ {S : Type 0} where
 
   -- from the whole places to all their directions, and back
   module _ (R : Direction → Type 0) where
-    to_directions : (places : List (Place S)) → All (λ x. whole x.entry ≡ true → R x.entry.direction) places → All R (whole_directions (records places))
+    to_directions : (places : List (Place S)) → AllByRecursion (λ x. whole x.entry ≡ true → R x.entry.direction) places → AllByRecursion R (whole_directions (records places))
     to_directions [] all = tt
     to_directions (a ∷ rest) all = go (whole a.entry) refl (to_directions rest all.1)
       where
-        go : (t : Bool) → whole a.entry ≡ t → All R (whole_directions (records rest)) →
-            All R (cond t (a.entry.direction ∷ whole_directions (records rest)) (whole_directions (records rest)))
+        go : (t : Bool) → whole a.entry ≡ t → AllByRecursion R (whole_directions (records rest)) →
+            AllByRecursion R (cond t (a.entry.direction ∷ whole_directions (records rest)) (whole_directions (records rest)))
         go true w later = (all.0 w, later)
         go false w later = later
 
-    from_directions : (places : List (Place S)) → All R (whole_directions (records places)) → All (λ x. whole x.entry ≡ true → R x.entry.direction) places
+    from_directions : (places : List (Place S)) → AllByRecursion R (whole_directions (records places)) → AllByRecursion (λ x. whole x.entry ≡ true → R x.entry.direction) places
     from_directions [] all = tt
     from_directions (a ∷ rest) all = go (whole a.entry) refl all (from_directions rest)
       where
-        go : (t : Bool) → whole a.entry ≡ t → All R (cond t (a.entry.direction ∷ whole_directions (records rest)) (whole_directions (records rest))) →
-            (All R (whole_directions (records rest)) → All (λ x. whole x.entry ≡ true → R x.entry.direction) rest) →
-            (whole a.entry ≡ true → R a.entry.direction) × All (λ x. whole x.entry ≡ true → R x.entry.direction) rest
+        go : (t : Bool) → whole a.entry ≡ t → AllByRecursion R (cond t (a.entry.direction ∷ whole_directions (records rest)) (whole_directions (records rest))) →
+            (AllByRecursion R (whole_directions (records rest)) → AllByRecursion (λ x. whole x.entry ≡ true → R x.entry.direction) rest) →
+            (whole a.entry ≡ true → R a.entry.direction) × AllByRecursion (λ x. whole x.entry ≡ true → R x.entry.direction) rest
         go true w all later = ((λ _. all.0), later all.1)
         go false w all later = ((λ t. absurd (both_ways (whole a.entry) w t)), later all)
 

@@ -16,7 +16,7 @@ abbrev pub Refused : Answer → Type 0
 Refused a = (r : Refusal) × (a ≡ refused r)
 
 module _ {S : Type 0} (K : Operations S) (m : Meaning S) where
-  -- what the first P-as-Q cells of the picture hold
+  -- what the first P·Q cells of the picture hold
   abbrev pub shown : Tables S → List S
   shown t = first (m.P * m.Q) t.picture
 

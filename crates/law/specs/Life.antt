@@ -2,7 +2,7 @@
 use Rattle.std.specs.Prelude.{◌≡◌, ℕ, ◌+◌, ◌<◌, ◌≤◌, Bool, true, false, cond, List, [], ◌∷◌, length}
 use Rattle.samples.specs.declared.kind.Kind.{Ghosts as Operations}
 use Rattle.peeling.specs.declared.state.State.{State}
-use Rattle.peeling.specs.History.{took, settled, gave-back, out}
+use Rattle.peeling.specs.History.{took, settled, gave_back, out}
 use Rattle.peeling.specs.History.{Call as PeelCall, refused as no_change, History as PeelHistory}
 use Rattle.mojette.specs.Meaning.{Shape, Meaning, Lawful, shape_of, pixels_of, bins_of}
 use Rattle.mojette.specs.Refusals.{Refusal}
@@ -62,7 +62,7 @@ after seals a h = cond (is_served a) [] (no_change ∷ h)
 after takes a h = granted_by a ∷ h
 after finishes a h = no_change ∷ h
 after (settles b) a h = cond (is_served a) (settled b) no_change ∷ h
-after (gives_back b) a h = cond (is_served a) (gave-back b) no_change ∷ h
+after (gives_back b) a h = cond (is_served a) (gave_back b) no_change ∷ h
 
 unfoldable pub since_seal : History → PeelHistory
 since_seal [] = []

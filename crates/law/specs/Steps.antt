@@ -1,5 +1,5 @@
 -- What each call on a tile makes of its stage and its tables, and what it answers.
-use Rattle.std.specs.Prelude.{ℕ, zero, suc, ◌+◌, ◌-◌, Bool, cond, not, ◌&&◌, ◌||◌, List, [], length, get_or, pos, Some, None, Option, ◌==◌, nat_le, nat_lt, slice_index_or, slice_set}
+use Rattle.std.specs.Prelude.{ℕ, zero, suc, ◌+◌, ◌-◌, Bool, cond, not, ◌&&◌, ◌||◌, List, [], length, pos, Some, None, Option, ◌==◌, nat_le, nat_lt, slice_index_or, slice_set}
 use Rattle.samples.specs.declared.kind.Kind.{Ghosts as Operations}
 use Rattle.mojette.specs.declared.direction.Record.{Record}
 use Rattle.mojette.specs.Bins.{bins, whole, start, whole_directions}
@@ -97,7 +97,7 @@ fits shape m n =
     (shape.P == m.P)
     && (shape.Q == m.Q
     && (length shape.records == length m.places
-    && same_record (slice_index_or shape.records n no_record) (get_or m.places n no_place).entry))
+    && same_record (slice_index_or shape.records n no_record) (slice_index_or m.places n no_place).entry))
 
 -- xs with f i in each cell from + i, for i below n
 unfoldable pub written : {X : Type 0} → ℕ → ℕ → (ℕ → X) → List X → List X

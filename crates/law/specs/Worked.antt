@@ -14,7 +14,7 @@ use Rattle.law.specs.Law.{shown}
 abbrev pub place : ℤ → ℤ → ℕ → List ℕ → Place SumWord
 place p q cause sums = record { entry = record { direction = record { p = p; q = q }; cause = cause }; sums = map sum_of sums }
 
--- the numbers in the first P-as-Q cells of the picture
+-- the numbers in the first P·Q cells of the picture
 abbrev pub cells : Meaning SumWord → Tables SumWord → List ℕ
 cells m t = map (λ x. x.value) (shown sum_words m t)
 

@@ -3,7 +3,7 @@ use Rattle.std.proofs.Common.{◌≡◌, ℕ, ◌+◌, ◌-◌, ◌<◌, ◌≤�
 use Rattle.std.proofs.lemmas.Bool.{cases_eq, cases_lt, eqb-true, eq-eqb, ne_eqb, and_right, or_right}
 use Rattle.peeling.specs.Counting.{one_if, tally}
 use Rattle.peeling.specs.Incidence.{Incidence}
-use Rattle.peeling.specs.History.{History, took, settled, gave-back, refused, missing, missing_in, waits, out, settles}
+use Rattle.peeling.specs.History.{History, took, settled, gave_back, refused, missing, missing_in, waits, out, settles}
 use Rattle.peeling.proofs.Bools.{and_true, or_false}
 use Rattle.peeling.proofs.Counts.{one_if_le, one_if_yes, tally_zero}
 use Rattle.peeling.proofs.Histories.{ended, same_bin, other_bin, tally_one_more, settled_waits}
@@ -68,13 +68,13 @@ module _ (I : Incidence) where
           omega arith)
           (cases_eq a b)
 
-  pub grants_gave : (h : History) (a : ℕ) → Grants I h → 0 < out h a → Grants I (gave-back a ∷ h)
+  pub grants_gave : (h : History) (a : ℕ) → Grants I h → 0 < out h a → Grants I (gave_back a ∷ h)
   unfolding missing waits out ended settles
-  grants_gave h a g some = grants_moved h (gave-back a ∷ h) g (λ b. refl) moved (λ b. refl)
+  grants_gave h a g some = grants_moved h (gave_back a ∷ h) g (λ b. refl) moved (λ b. refl)
       (λ b k. let z = g.within b k in omega arith)
       g.all
     where
-      moved : (b : ℕ) → b < I.bins → one_if (waits I (gave-back a ∷ h) b) + (out h b - one_if (eqb a b)) ≡ one_if (waits I h b) + out h b
+      moved : (b : ℕ) → b < I.bins → one_if (waits I (gave_back a ∷ h) b) + (out h b - one_if (eqb a b)) ≡ one_if (waits I h b) + out h b
       moved b l = ⊎_elim
           (λ (e : a ≡ b).
           let s = same_bin a b e in

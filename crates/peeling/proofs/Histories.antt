@@ -3,7 +3,7 @@ use Rattle.std.proofs.Common.{◌≡◌, ℕ, ◌+◌, ◌<◌, Bool, true, fals
 use Rattle.std.proofs.lemmas.Bool.{cases_Bool, eqb-true, eqb-false, eq-eqb, ne_eqb, and_parts, and_from, and_right, or_right}
 use Rattle.peeling.specs.Counting.{one_if, tally, number}
 use Rattle.peeling.specs.Incidence.{Incidence}
-use Rattle.peeling.specs.History.{History, took, settled, gave-back, refused, missing, missing_in, waits}
+use Rattle.peeling.specs.History.{History, took, settled, gave_back, refused, missing, missing_in, waits}
 use Rattle.peeling.proofs.Bools.{and_true, or_false}
 use Rattle.peeling.proofs.Counts.{tally_change, number_change, number_alone}
 
@@ -12,7 +12,7 @@ unfoldable pub ended : History → ℕ → ℕ
 ended [] b = 0
 ended (took a ∷ h) b = ended h b
 ended (settled a ∷ h) b = ended h b + one_if (eqb a b)
-ended (gave-back a ∷ h) b = ended h b
+ended (gave_back a ∷ h) b = ended h b
 ended (refused ∷ h) b = ended h b
 
 pub same_bin : (a b : ℕ) → a ≡ b → one_if (eqb a b) ≡ 1

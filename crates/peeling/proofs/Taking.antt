@@ -5,7 +5,7 @@ use Rattle.samples.specs.declared.kind.Kind.{Ghosts as Operations}
 use Rattle.peeling.specs.Counting.{one_if, tally}
 use Rattle.peeling.specs.Incidence.{Incidence}
 use Rattle.peeling.specs.Steps.{World, most, none_waits, bad_cell, grants, front, take_answers, taken, handed_in, with_state, take, give_back}
-use Rattle.peeling.specs.History.{History, took, gave-back, refused, missing, waits, out, settles}
+use Rattle.peeling.specs.History.{History, took, gave_back, refused, missing, waits, out, settles}
 use Rattle.peeling.proofs.Bools.{and_true, or_false}
 use Rattle.peeling.proofs.Counts.{tally_le, one_if_no}
 use Rattle.peeling.proofs.Rings.{Ring, ring_front, ring_take, ring_append}
@@ -102,21 +102,21 @@ module _ {A : Type 0} (K : Operations A) (I : Incidence) where
       valued = valued_same K I source h (took b ∷ h) w (take K I w) kept.valued (λ c. refl) refl refl;
     }
 
-    gave_waits : (b : ℕ) → waits I (gave-back b ∷ h) b ≡ true
+    gave_waits : (b : ℕ) → waits I (gave_back b ∷ h) b ≡ true
     unfolding waits
     gave_waits b = ap (λ x. waits I h b || x) (eq-eqb b b refl) ∙ or_right (waits I h b) true refl
 
-    gave_others : (b a : ℕ) → (a ≡ b → ⊥) → waits I h a ≡ waits I (gave-back b ∷ h) a
+    gave_others : (b a : ℕ) → (a ≡ b → ⊥) → waits I h a ≡ waits I (gave_back b ∷ h) a
     unfolding waits
     gave_others b a d = sym (ap (λ x. waits I h a || x) (ne_eqb b a (λ e. d (sym e))) ∙ or_false (waits I h a))
 
-    gave_counters : (b : ℕ) → 0 < out h b → Counters I (gave-back b ∷ h) (give_back K I b w)
+    gave_counters : (b : ℕ) → 0 < out h b → Counters I (gave_back b ∷ h) (give_back K I b w)
     unfolding handed_in settles out
     gave_counters b some = record {
       grants = grants_gave I h b kept.counters.grants some;
-      ring = append_holds K I fits b (with_state (handed_in w.state) w) (waits I (gave-back b ∷ h)) more.0 more.1;
+      ring = append_holds K I fits b (with_state (handed_in w.state) w) (waits I (gave_back b ∷ h)) more.0 more.1;
       out =
-          let m = out_less I h (gave-back b ∷ h) b kept.counters.grants some (λ a. refl) in
+          let m = out_less I h (gave_back b ∷ h) b kept.counters.grants some (λ a. refl) in
           let o = kept.counters.out in
           let f = (append_framed K I b (with_state (handed_in w.state) w)).out in
           omega arith;
@@ -129,16 +129,16 @@ module _ {A : Type 0} (K : Operations A) (I : Incidence) where
         was : waits I h b ≡ false
         was = one_if_no (waits I h b) (let o = kept.counters.grants.once b inside in omega arith)
 
-        more : (w.state.waiting < I.bins) × Ring I.bins w.state.head (w.state.waiting + 1) (set w.queue ((w.state.head + w.state.waiting) % I.bins) b) (waits I (gave-back b ∷ h))
-        more = ring_append I.bins w.state.head w.state.waiting w.queue (waits I h) (waits I (gave-back b ∷ h)) b kept.counters.ring inside was (gave_waits b)
+        more : (w.state.waiting < I.bins) × Ring I.bins w.state.head (w.state.waiting + 1) (set w.queue ((w.state.head + w.state.waiting) % I.bins) b) (waits I (gave_back b ∷ h))
+        more = ring_append I.bins w.state.head w.state.waiting w.queue (waits I h) (waits I (gave_back b ∷ h)) b kept.counters.ring inside was (gave_waits b)
             (λ a l d. gave_others b a d)
 
-    pub gave_kept : (b : ℕ) → 0 < out h b → Kept K I source (gave-back b ∷ h) (give_back K I b w)
+    pub gave_kept : (b : ℕ) → 0 < out h b → Kept K I source (gave_back b ∷ h) (give_back K I b w)
     unfolding handed_in missing
     gave_kept b some = record {
       counters = gave_counters b some;
-      marked = marked_same I h (gave-back b ∷ h) w (give_back K I b w) kept.marked (λ c. refl) frame.marks (append_counts K I b (with_state (handed_in w.state) w)) frame.left;
-      valued = valued_same K I source h (gave-back b ∷ h) w (give_back K I b w) kept.valued (λ c. refl) frame.picture (append_sums K I b (with_state (handed_in w.state) w));
+      marked = marked_same I h (gave_back b ∷ h) w (give_back K I b w) kept.marked (λ c. refl) frame.marks (append_counts K I b (with_state (handed_in w.state) w)) frame.left;
+      valued = valued_same K I source h (gave_back b ∷ h) w (give_back K I b w) kept.valued (λ c. refl) frame.picture (append_sums K I b (with_state (handed_in w.state) w));
     }
       where
         frame : Framed (give_back K I b w) (with_state (handed_in w.state) w)

@@ -6,7 +6,7 @@ use Rattle.peeling.specs.Incidence.{Incidence, pixels_in}
 
 -- A call since the accepted seal: a take that granted a bin, a settle or a give back served with a bin's grant, or a refused call.
 pub data Call : Type 0 where
-  took settled gave-back : ℕ → Call
+  took settled gave_back : ℕ → Call
   refused : Call
 
 -- The calls since the accepted seal, the newest first.
@@ -19,7 +19,7 @@ module _ (I : Incidence) where
   missing [] c = true
   missing (took b ∷ h) c = missing h c
   missing (settled b ∷ h) c = missing h c && not (I.lies c b && pixels_in I b (missing h) == 1)
-  missing (gave-back b ∷ h) c = missing h c
+  missing (gave_back b ∷ h) c = missing h c
   missing (refused ∷ h) c = missing h c
 
   -- how many pixels of bin b are missing
@@ -32,7 +32,7 @@ module _ (I : Incidence) where
   waits [] b = (missing_in [] b) == 1
   waits (took a ∷ h) b = waits h b && not (a == b)
   waits (settled a ∷ h) b = waits h b || (not (missing_in h b == 1) && missing_in (settled a ∷ h) b == 1)
-  waits (gave-back a ∷ h) b = waits h b || a == b
+  waits (gave_back a ∷ h) b = waits h b || a == b
   waits (refused ∷ h) b = waits h b
 
 -- How many grants of bin b are out: a grant is out from its take until a settle or a give back with it.
@@ -40,7 +40,7 @@ unfoldable pub out : History → ℕ → ℕ
 out [] b = 0
 out (took a ∷ h) b = out h b + one_if (a == b)
 out (settled a ∷ h) b = out h b - one_if (a == b)
-out (gave-back a ∷ h) b = out h b - one_if (a == b)
+out (gave_back a ∷ h) b = out h b - one_if (a == b)
 out (refused ∷ h) b = out h b
 
 -- how many settles were served
@@ -48,5 +48,5 @@ unfoldable pub settles : History → ℕ
 settles [] = 0
 settles (took a ∷ h) = settles h
 settles (settled a ∷ h) = settles h + 1
-settles (gave-back a ∷ h) = settles h
+settles (gave_back a ∷ h) = settles h
 settles (refused ∷ h) = settles h

@@ -4,7 +4,7 @@ use Rattle.samples.specs.declared.kind.Kind.{Ghosts as Operations}
 use Rattle.peeling.specs.Counting.{number, tally}
 use Rattle.peeling.specs.Incidence.{Incidence, OneMissing, Agrees, loaded}
 use Rattle.peeling.specs.Steps.{World, most, seal, Refused, bad_cell, grants, take_answers, take, settle, give_back, finish_answers, served}
-use Rattle.peeling.specs.History.{History, took, settled, gave-back, refused, missing, missing_in, waits, out, settles}
+use Rattle.peeling.specs.History.{History, took, settled, gave_back, refused, missing, missing_in, waits, out, settles}
 
 module _ {A : Type 0} (K : Operations A) (I : Incidence) (source : ℕ → A) where
   -- The tables are long enough, and the sums are the source's, with zeros in lost places.
@@ -22,7 +22,7 @@ module _ {A : Type 0} (K : Operations A) (I : Incidence) (source : ℕ → A) wh
     sealed : {w : World A} → Ready w → Run [] (seal K I w)
     takes : {h : History} {w : World A} {b : ℕ} → Run h w → take_answers I.bins w.state w.queue ≡ grants b → Run (took b ∷ h) (take K I w)
     settles_grant : {h : History} {w : World A} {b : ℕ} → Run h w → 0 < out h b → Run (settled b ∷ h) (settle K I b w)
-    gives_back : {h : History} {w : World A} {b : ℕ} → Run h w → 0 < out h b → Run (gave-back b ∷ h) (give_back K I b w)
+    gives_back : {h : History} {w : World A} {b : ℕ} → Run h w → 0 < out h b → Run (gave_back b ∷ h) (give_back K I b w)
     refuses : {h : History} {w : World A} → Run h w → Run (refused ∷ h) w
 
   -- What holds after the calls h, in the world w.
