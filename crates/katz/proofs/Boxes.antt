@@ -1,6 +1,6 @@
 -- Pictures that are zero outside a box. While the box has room in the tile, a step cuts nothing off.
 use Rattle.std.proofs.Common.{◌≡◌, ℕ, ◌+◌, ◌-◌, ◌<◌, ◌≤◌, true, false, cond, ◌&&◌, ◌⊎◌, List, [], ◌∷◌, ℤ, pos, negsuc, ◌-ℤ◌, nat_abs, ◌≤ℤ◌, ◌<ℤ◌, sym, refl, ◌∙◌, inl, inr, arith}
-use Rattle.std.specs.List.{AllByRecursion as All}
+use Rattle.std.specs.List.{AllByRecursion}
 use Rattle.std.proofs.lemmas.Int.{ints}
 use Rattle.std.proofs.lemmas.Bool.{cases_Bool, and_cases, cond-true, cond-false, ltb-false}
 use Rattle.samples.specs.declared.kind.Kind.{Ghosts as Operations}
@@ -108,7 +108,7 @@ module _ {S : Type 0} (K : Operations S) where
     pub at_left : leftward ds ≤ first
     pub at_right : last + rightward ds < P
     pub at_bottom : low + rows ds < Q
-    pub downward : All (λ d. d.q ≡ pos (nat_abs d.q)) ds
+    pub downward : AllByRecursion (λ d. d.q ≡ pos (nat_abs d.q)) ds
 
   pub room_fits : (P Q : ℕ) (d : Direction) (ds : List Direction) (f : Picture S) (r : Room P Q (d ∷ ds) f)
       → Fits P Q d.p d.q r.first r.last r.low

@@ -1,7 +1,7 @@
 -- What the tests of directions say.
 use Rattle.std.proofs.Common.{◌≡◌, true, not, ◌⊎◌, List, [], ◌∷◌, ℤ, pos, nat_abs, ◌≤ℤ◌, subst, inl, inr, arith}
 use lib.Signed.{le_z}
-use Rattle.std.specs.List.{AllByRecursion as All}
+use Rattle.std.specs.List.{AllByRecursion}
 use Rattle.std.proofs.ByRecursion.{All-weaker}
 use Rattle.std.proofs.lemmas.Int.{ints}
 use Rattle.std.proofs.lemmas.Bool.{and_parts, or_cases, not-true, both_ways, eqb-true}
@@ -33,9 +33,9 @@ lawful_is d h =
     let e = and_parts _ _ c.1 in
     record { down = not_left d.q b.0; coprime = eqb-true (gcd (nat_abs d.p) (nat_abs d.q)) 1 e.0; level = level_is d e.1 }
 
-pub all_lawful_is : (ds : List Direction) → all_lawful ds ≡ true → All (λ d. lawful d ≡ true) ds
+pub all_lawful_is : (ds : List Direction) → all_lawful ds ≡ true → AllByRecursion (λ d. lawful d ≡ true) ds
 all_lawful_is [] h = tt
 all_lawful_is (d ∷ ds) h = let e = and_parts (lawful d) (all_lawful ds) h in (e.0, all_lawful_is ds e.1)
 
-pub each_lawful : (ds : List Direction) → all_lawful ds ≡ true → All Lawful ds
+pub each_lawful : (ds : List Direction) → all_lawful ds ≡ true → AllByRecursion Lawful ds
 each_lawful ds h = All-weaker (λ d. lawful d ≡ true) Lawful lawful_is ds (all_lawful_is ds h)

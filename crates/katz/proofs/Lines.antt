@@ -2,7 +2,7 @@
 -- becomes the difference of two, and of the same one if d is d'.
 use Rattle.std.proofs.Common.{◌≡◌, ℕ, ◌+◌, ◌*◌, ◌/◌, ◌%◌, ◌<◌, Bool, true, false, cond, not, ◌&&◌, List, [], ◌∷◌, get_or, ℤ, pos, ◌+ℤ◌, ◌-ℤ◌, ◌*ℤ◌, neg_ℤ, sym, refl, ap, ◌∙◌, ap₂, arith}
 use lib.Signed.{lt_z}
-use Rattle.std.specs.List.{AllByRecursion as All}
+use Rattle.std.specs.List.{AllByRecursion}
 use Rattle.std.proofs.lemmas.List.FromFn.{get_or-map-range_with_len}
 use Rattle.std.proofs.lemmas.Int.{ints}
 use Rattle.samples.specs.declared.kind.Kind.{Ghosts as Operations}
@@ -142,7 +142,7 @@ module _ {S : Type 0} (K : Operations S) where
         empty_still ds (step K P Q e f) (room_step K P Q e ds f room) d
         (empty_next e f room.first room.last room.low (room_fits K P Q e ds f room) room.box d h)
 
-    pub all_empty : (ds : List Direction) (f : Picture S) → Room K P Q ds f → All (Empty (steps K P Q ds f)) ds
+    pub all_empty : (ds : List Direction) (f : Picture S) → Room K P Q ds f → AllByRecursion (Empty (steps K P Q ds f)) ds
     all_empty [] f room = tt
     all_empty (e ∷ ds) f room = (
       empty_still ds (step K P Q e f) (room_step K P Q e ds f room) e

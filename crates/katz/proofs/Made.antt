@@ -1,6 +1,6 @@
 -- The made ghost: it starts in a box with room for all the directions, and the spark stays.
 use Rattle.std.proofs.Common.{◌≡◌, ℕ, zero, suc, ◌+◌, ◌*◌, ◌<◌, ◌≤◌, true, false, ◌&&◌, ◌⊎◌, List, [], ◌∷◌, get_or, ℤ, pos, negsuc, ◌-ℤ◌, nat_abs, ◌≤ℤ◌, ◌<ℤ◌, refl, ◌∙◌, subst, inl, inr, arith}
-use Rattle.std.specs.List.{AllByRecursion as All}
+use Rattle.std.specs.List.{AllByRecursion}
 use Rattle.std.proofs.lemmas.List.FromFn.{length-map-range_with_len}
 use Rattle.std.proofs.ByRecursion.{All-weaker}
 use Rattle.std.proofs.lemmas.Int.{ints}
@@ -42,7 +42,7 @@ module _ {S : Type 0} (K : Operations S) where
         beneath = λ k l h. start_zero k₀ k l (λ e. let e₁ = e.1 in omega (arith, ints));
       }
 
-  start_room : (P Q : ℕ) (ds : List Direction) → All Lawful ds → columns ds < P → rows ds < Q → Room K P Q ds (start K (leftward ds))
+  start_room : (P Q : ℕ) (ds : List Direction) → AllByRecursion Lawful ds → columns ds < P → rows ds < Q → Room K P Q ds (start K (leftward ds))
   start_room P Q ds laws h h' =
       record {
         first = leftward ds;
@@ -85,7 +85,7 @@ module _ {S : Type 0} (K : Operations S) where
       read : (k : ℤ) → k ≤ℤ pos k₀ → f (k -ℤ d.p) (pos 0 -ℤ d.q) ≡ K.zero
       read = nothing_read k₀ f room.first room.last room.low room.box lit d.p d.q law.down law.level
 
-  lit_steps : (P Q k₀ : ℕ) (ds : List Direction) (f : Picture S) → All Lawful ds → Room K P Q ds f → Lit k₀ f → Lit k₀ (steps K P Q ds f)
+  lit_steps : (P Q k₀ : ℕ) (ds : List Direction) (f : Picture S) → AllByRecursion Lawful ds → Room K P Q ds f → Lit k₀ f → Lit k₀ (steps K P Q ds f)
   lit_steps P Q k₀ [] f laws room lit = lit
   lit_steps P Q k₀ (d ∷ ds) f laws room lit =
       lit_steps P Q k₀ ds (step K P Q d f) laws.1 (room_step K P Q d ds f room) (lit_step P Q k₀ d ds f laws.0 room lit)
@@ -104,7 +104,7 @@ module _ {S : Type 0} (K : Operations S) where
         spark_stays = spark;
       }
     where
-      each : All Lawful ds
+      each : AllByRecursion Lawful ds
       each = each_lawful ds laws.each
 
       room : Room K P Q ds (start K (leftward ds))

@@ -3,7 +3,7 @@ use Rattle.std.proofs.Common.{◌≡◌, zero, suc, Bool, true, false, cond, Lis
 use lib.Signed.{lt_z, clash_ℤ, <ℤ-≤ℤ_trans}
 use Rattle.std.proofs.lemmas.Int.{ints, by_lt_z}
 use Rattle.std.proofs.lemmas.Bool.{and_parts, and_from}
-use Rattle.std.specs.List.{AllByRecursion as All}
+use Rattle.std.specs.List.{AllByRecursion}
 use Rattle.mojette.specs.declared.direction.Direction.{Direction}
 use Rattle.mojette.specs.declared.direction.Record.{Record}
 use Rattle.mojette.specs.Bins.{whole, whole_directions}
@@ -17,7 +17,7 @@ Before d e = (e.p *ℤ d.q) <ℤ (d.p *ℤ e.q)
 
 abbrev pub EachBeforeLater : List Direction → Type 0
 EachBeforeLater [] = Unit {0}
-EachBeforeLater (d ∷ ds) = All (Before d) ds × EachBeforeLater ds
+EachBeforeLater (d ∷ ds) = AllByRecursion (Before d) ds × EachBeforeLater ds
 
 not_level : (q n p a : ℤ) → pos 0 ≤ℤ q → pos 0 ≤ℤ n → (q ≡ pos 0 → p ≡ pos 1) → (p *ℤ n) <ℤ (a *ℤ q) → pos 0 <ℤ q
 not_level (pos zero) n p a hq hn level h =
@@ -55,7 +55,7 @@ before_trans d e f ld le lf h₁ h₂ =
     turn_trans d.p e.p f.p d.q e.q f.q ld.down (positive_after d e ld le h₁) (positive_after e f le lf h₂) h₁ h₂
 
 before_all :
-    (d e : Direction) (ds : List Direction) → Lawful d → Lawful e → All Lawful ds → Before d e → All (Before e) ds → All (Before d) ds
+    (d e : Direction) (ds : List Direction) → Lawful d → Lawful e → AllByRecursion Lawful ds → Before d e → AllByRecursion (Before e) ds → AllByRecursion (Before d) ds
 before_all d e [] ld le ls h hs = tt
 before_all d e (f ∷ ds) ld le ls h hs = (before_trans d e f ld le ls.0 h hs.0, before_all d e ds ld le ls.1 h hs.1)
 
@@ -65,7 +65,7 @@ before_is d e h = go (e.p *ℤ d.q) (d.p *ℤ e.q) h
     go : (a b : ℤ) → lt_z a b ≡ true → a <ℤ b
     go a b h = omega (arith, ints)
 
-sorted : (ds : List Direction) → All Lawful ds → in_order ds ≡ true → EachBeforeLater ds
+sorted : (ds : List Direction) → AllByRecursion Lawful ds → in_order ds ≡ true → EachBeforeLater ds
 sorted [] ls h = tt
 sorted (d ∷ []) ls h = (tt, tt)
 sorted (d ∷ e ∷ ds) ls h =
@@ -92,11 +92,11 @@ in_order_from (d ∷ []) h = refl
 in_order_from (d ∷ e ∷ ds) h = and_from _ _ (before_from d e h.0.0) (in_order_from (e ∷ ds) h.1)
 
 -- What holds of the directions of all places holds of those of the whole ones.
-pub whole_all : (R : Direction → Type 0) (es : List Record) → All R (map (λ e. e.direction) es) → All R (whole_directions es)
+pub whole_all : (R : Direction → Type 0) (es : List Record) → AllByRecursion R (map (λ e. e.direction) es) → AllByRecursion R (whole_directions es)
 whole_all R [] all = tt
 whole_all R (e ∷ es) all = go (whole e) (whole_all R es all.1)
   where
-    go : (t : Bool) → All R (whole_directions es) → All R (cond t (e.direction ∷ whole_directions es) (whole_directions es))
+    go : (t : Bool) → AllByRecursion R (whole_directions es) → AllByRecursion R (cond t (e.direction ∷ whole_directions es) (whole_directions es))
     go true later = (all.0, later)
     go false later = later
 

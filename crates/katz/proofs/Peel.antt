@@ -2,7 +2,7 @@
 use Rattle.std.proofs.Common.{◌≡◌, ℕ, suc, ◌<◌, true, false, ◌⊎◌, List, [], ◌∷◌, refl, inl, inr, arith}
 use lib.IntN.{ℤ_discrete}
 use Rattle.std.proofs.lemmas.Bool.{both_ways, cases_Bool, cases_eq}
-use Rattle.std.specs.List.{AllByRecursion as All}
+use Rattle.std.specs.List.{AllByRecursion}
 use Rattle.mojette.specs.declared.direction.Direction.{Direction}
 use Rattle.mojette.specs.Bins.{raw}
 use Rattle.katz.specs.Sets.{Pixels, Within, Partner, Paired, Alone, Peelable, Peels}
@@ -54,11 +54,11 @@ module _ (P Q : ℕ) (S : Pixels) (inside : Within P Q S) where
       go (inl all) = inl (λ k l h. let within = inside k l h in all k l within.0 within.1 h)
       go (inr w) = inr w
 
-  paired_or_peelable : (ds : List Direction) → All (Paired S) ds ⊎ Peelable ds S
+  paired_or_peelable : (ds : List Direction) → AllByRecursion (Paired S) ds ⊎ Peelable ds S
   paired_or_peelable [] = inl tt
   paired_or_peelable (d ∷ ds) = go (paired_or_alone d) (paired_or_peelable ds)
     where
-      go : Paired S d ⊎ ((k : ℕ) × (l : ℕ) × Alone S d k l) → All (Paired S) ds ⊎ Peelable ds S → All (Paired S) (d ∷ ds) ⊎ Peelable (d ∷ ds) S
+      go : Paired S d ⊎ ((k : ℕ) × (l : ℕ) × Alone S d k l) → AllByRecursion (Paired S) ds ⊎ Peelable ds S → AllByRecursion (Paired S) (d ∷ ds) ⊎ Peelable (d ∷ ds) S
       go (inr w) rest = inr (record { d = d; k = w.0; l = w.1; listed = (0, omega arith, λ _. refl); alone = w.2 })
       go (inl p) (inl ps) = inl (p, ps)
       go (inl p) (inr w) =
@@ -67,7 +67,7 @@ module _ (P Q : ℕ) (S : Pixels) (inside : Within P Q S) where
 pub peels : Peels
 peels P Q ds S laws criterion inside some = go (paired_or_peelable P Q S inside ds)
   where
-    go : All (Paired S) ds ⊎ Peelable ds S → Peelable ds S
+    go : AllByRecursion (Paired S) ds ⊎ Peelable ds S → Peelable ds S
     go (inr w) = w
     go (inl paired) =
         let s = spans P Q ds S laws inside some paired in

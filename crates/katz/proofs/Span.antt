@@ -2,7 +2,7 @@
 use Rattle.std.proofs.Common.{◌≡◌, ℕ, List, [], ◌∷◌, ℤ, pos, ◌+ℤ◌, ◌-ℤ◌, ◌*ℤ◌, neg_ℤ, ◌≤ℤ◌, ◌<ℤ◌, sym, ap, ◌∙◌, subst, arith}
 use Rattle.std.proofs.lemmas.Int.{ints}
 use Rattle.std.proofs.ByRecursion.{All-weaker}
-use Rattle.std.specs.List.{AllByRecursion as All}
+use Rattle.std.specs.List.{AllByRecursion}
 use Rattle.mojette.specs.declared.direction.Direction.{Direction}
 use Rattle.mojette.specs.Bins.{raw}
 use Rattle.katz.specs.Sets.{Pixels, Within, Nonempty, Paired, Apart, column, row, Spans}
@@ -28,7 +28,7 @@ side_against d k l = go d.p d.q
 coprime : (d : Direction) → Lawful d → Bezout d.p d.q (pos 1)
 coprime d law = bezout_coprime d.p d.q law.coprime
 
-both : {X : Type 0} (F G : X → Type 0) (xs : List X) → All F xs → All G xs → All (λ x. F x × G x) xs
+both : {X : Type 0} (F G : X → Type 0) (xs : List X) → AllByRecursion F xs → AllByRecursion G xs → AllByRecursion (λ x. F x × G x) xs
 both F G [] f g = tt
 both F G (x ∷ xs) f g = ((f.0, g.0), both F G xs f.1 g.1)
 
@@ -56,16 +56,16 @@ spans P Q ds S laws inside some paired = (
     Both : Direction → Type 0
     Both d = Lawful d × Paired S d
 
-    all : All Both ds
+    all : AllByRecursion Both ds
     all = both Lawful (Paired S) ds (each_lawful ds laws.each) paired
 
-    down : All (Forward S y_of) (downward ds)
+    down : AllByRecursion (Forward S y_of) (downward ds)
     down =
         all_downward (Forward S y_of) ds
         (All-weaker Both (λ d. Forward S y_of (along d))
         (λ d h. record { edge = edge_along P Q S inside some d h.0 h.1; forward = h.0.down }) ds all)
 
-    right : All (Forward S x_of) (rightward ds)
+    right : AllByRecursion (Forward S x_of) (rightward ds)
     right =
         all_rightward (Forward S x_of) ds
         (All-weaker Both (λ d. d.p <ℤ pos 0 → Forward S x_of (against d))

@@ -3,7 +3,7 @@
 use Rattle.std.proofs.Common.{◌≡◌, ℕ, zero, suc, ◌+◌, List, [], ◌∷◌, ◌++◌, map, ℤ, pos, negsuc, ◌*ℤ◌, neg_ℤ, nat_abs, ◌≤ℤ◌, ◌<ℤ◌, sym, refl, ap, ◌∙◌, subst, subst₂, arith}
 use Rattle.std.proofs.lemmas.Int.{ints}
 use Rattle.std.proofs.ByRecursion.{All-weaker, All-map, All-append}
-use Rattle.std.specs.List.{AllByRecursion as All}
+use Rattle.std.specs.List.{AllByRecursion}
 use Rattle.mojette.specs.declared.direction.Direction.{Direction}
 use Rattle.mojette.specs.Directions.{LawfulDirections, columns, rows}
 use Rattle.katz.proofs.Integers.{neg_mul_neg}
@@ -42,30 +42,30 @@ back (d ∷ ds) = back_of d.p d.q (back ds)
 pub rightward : List Direction → List Vector
 rightward ds = back ds ++ fore ds
 
-all_fore : (F : Vector → Type 0) (ds : List Direction) → All (λ d. pos 0 ≤ℤ d.p → F (along d)) ds → All F (fore ds)
+all_fore : (F : Vector → Type 0) (ds : List Direction) → AllByRecursion (λ d. pos 0 ≤ℤ d.p → F (along d)) ds → AllByRecursion F (fore ds)
 unfolding fore fore_of
 all_fore F [] h = tt
 all_fore F (d ∷ ds) h = go d.p d.q h.0 (all_fore F ds h.1)
   where
-    go : (p q : ℤ) → (pos 0 ≤ℤ p → F (record { x = p; y = q })) → All F (fore ds) → All F (fore_of p q (fore ds))
+    go : (p q : ℤ) → (pos 0 ≤ℤ p → F (record { x = p; y = q })) → AllByRecursion F (fore ds) → AllByRecursion F (fore_of p q (fore ds))
     go (pos p) q f a = (f (omega (arith, ints)), a)
     go (negsuc p) q f a = a
 
-all_back : (F : Vector → Type 0) (ds : List Direction) → All (λ d. d.p <ℤ pos 0 → F (against d)) ds → All F (back ds)
+all_back : (F : Vector → Type 0) (ds : List Direction) → AllByRecursion (λ d. d.p <ℤ pos 0 → F (against d)) ds → AllByRecursion F (back ds)
 unfolding back back_of
 all_back F [] h = tt
 all_back F (d ∷ ds) h = go d.p d.q h.0 (all_back F ds h.1)
   where
-    go : (p q : ℤ) → (p <ℤ pos 0 → F (record { x = neg_ℤ p; y = neg_ℤ q })) → All F (back ds) → All F (back_of p q (back ds))
+    go : (p q : ℤ) → (p <ℤ pos 0 → F (record { x = neg_ℤ p; y = neg_ℤ q })) → AllByRecursion F (back ds) → AllByRecursion F (back_of p q (back ds))
     go (pos p) q f a = a
     go (negsuc p) q f a = (f (omega (arith, ints)), a)
 
-pub all_rightward : (F : Vector → Type 0) (ds : List Direction) → All (λ d. d.p <ℤ pos 0 → F (against d)) ds
-    → All (λ d. pos 0 ≤ℤ d.p → F (along d)) ds → All F (rightward ds)
+pub all_rightward : (F : Vector → Type 0) (ds : List Direction) → AllByRecursion (λ d. d.p <ℤ pos 0 → F (against d)) ds
+    → AllByRecursion (λ d. pos 0 ≤ℤ d.p → F (along d)) ds → AllByRecursion F (rightward ds)
 unfolding rightward
 all_rightward F ds hb hf = All-append F (back ds) (fore ds) (all_back F ds hb) (all_fore F ds hf)
 
-pub all_downward : (F : Vector → Type 0) (ds : List Direction) → All (λ d. F (along d)) ds → All F (downward ds)
+pub all_downward : (F : Vector → Type 0) (ds : List Direction) → AllByRecursion (λ d. F (along d)) ds → AllByRecursion F (downward ds)
 unfolding downward
 all_downward F ds h = All-map F along ds h
 
@@ -79,7 +79,7 @@ pairwise_fore (d ∷ ds) h =
     (all_fore (Turn (along d)) ds (All-weaker (Before d) (λ e. pos 0 ≤ℤ e.p → Turn (along d) (along e)) (λ e b _. b) ds h.0))
     (pairwise_fore ds h.1)
   where
-    go : (p q : ℤ) → All (Turn (record { x = p; y = q })) (fore ds) → Pairwise (fore ds) → Pairwise (fore_of p q (fore ds))
+    go : (p q : ℤ) → AllByRecursion (Turn (record { x = p; y = q })) (fore ds) → Pairwise (fore ds) → Pairwise (fore_of p q (fore ds))
     go (pos p) q a t = (a, t)
     go (negsuc p) q a t = t
 
@@ -94,11 +94,11 @@ pairwise_back (d ∷ ds) h =
     (all_back (Turn (against d)) ds (All-weaker (Before d) (λ e. e.p <ℤ pos 0 → Turn (against d) (against e)) (λ e b _. opposite_turn d e b) ds h.0))
     (pairwise_back ds h.1)
   where
-    go : (p q : ℤ) → All (Turn (record { x = neg_ℤ p; y = neg_ℤ q })) (back ds) → Pairwise (back ds) → Pairwise (back_of p q (back ds))
+    go : (p q : ℤ) → AllByRecursion (Turn (record { x = neg_ℤ p; y = neg_ℤ q })) (back ds) → Pairwise (back ds) → Pairwise (back_of p q (back ds))
     go (pos p) q a t = t
     go (negsuc p) q a t = (a, t)
 
-pairwise_append : (vs ws : List Vector) → Pairwise vs → Pairwise ws → All (λ v. All (Turn v) ws) vs → Pairwise (vs ++ ws)
+pairwise_append : (vs ws : List Vector) → Pairwise vs → Pairwise ws → AllByRecursion (λ v. AllByRecursion (Turn v) ws) vs → Pairwise (vs ++ ws)
 pairwise_append [] ws hv hw h = hw
 pairwise_append (v ∷ vs) ws hv hw h =
     (All-append (Turn v) vs ws hv.0 h.0, pairwise_append vs ws hv.1 hw h.1)
@@ -132,8 +132,8 @@ unfolding rightward
 pairwise_rightward ds laws =
     let s = each_before_later ds laws in
     pairwise_append (back ds) (fore ds) (pairwise_back ds s) (pairwise_fore ds s)
-    (all_back (λ v. All (Turn v) (fore ds)) ds
-    (All-weaker Lawful (λ d. d.p <ℤ pos 0 → All (Turn (against d)) (fore ds))
+    (all_back (λ v. AllByRecursion (Turn v) (fore ds)) ds
+    (All-weaker Lawful (λ d. d.p <ℤ pos 0 → AllByRecursion (Turn (against d)) (fore ds))
     (λ d ld hd. all_fore (Turn (against d)) ds
     (All-weaker Lawful (λ e. pos 0 ≤ℤ e.p → Turn (against d) (along e)) (λ e le he. turn_over d e ld le hd he) ds (each_lawful ds laws.each)))
     ds (each_lawful ds laws.each)))

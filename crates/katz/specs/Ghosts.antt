@@ -1,6 +1,6 @@
 -- Ghosts: tiles that are not zero although all their sums are; and Katz's theorem.
 use Rattle.std.specs.Prelude.{◌≡◌, ℕ, ◌*◌, ◌<◌, ◌↔◌, List, map, length, slice_index_or}
-use Rattle.std.specs.List.{AllByRecursion as All}
+use Rattle.std.specs.List.{AllByRecursion}
 use Rattle.samples.specs.declared.kind.Kind.{Ghosts as Operations}
 use Rattle.mojette.specs.declared.direction.Direction.{Direction}
 use Rattle.mojette.specs.declared.direction.Record.{Record}
@@ -12,7 +12,7 @@ use Rattle.katz.specs.Sets.{Criterion}
 module _ {S : Type 0} (K : Operations S) where
   -- all sums of a tile are zero, in every bin of every direction
   abbrev pub Vanishes : ℕ → ℕ → List Direction → List S → Type 0
-  Vanishes P Q ds tile = All (λ d. (b : ℕ) → b < bins P Q d → bin_sum K P Q tile d b ≡ K.zero) ds
+  Vanishes P Q ds tile = AllByRecursion (λ d. (b : ℕ) → b < bins P Q d → bin_sum K P Q tile d b ≡ K.zero) ds
 
   pub record Ghost (P Q : ℕ) (ds : List Direction) (tile : List S) : Type 0 where
     pub size : length tile ≡ P * Q

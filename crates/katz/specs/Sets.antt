@@ -1,6 +1,6 @@
 -- Sets of pixels of a tile, how they meet the bins of a direction, and the theorems on them.
 use Rattle.std.specs.Prelude.{◌≡◌, ℕ, ◌+◌, ◌<◌, ◌≤◌, Bool, true, ◌⊎◌, List}
-use Rattle.std.specs.List.{ContainsAt as Has, AllByRecursion as All}
+use Rattle.std.specs.List.{ContainsAt as Has, AllByRecursion}
 use Rattle.mojette.specs.declared.direction.Direction.{Direction}
 use Rattle.mojette.specs.Directions.{LawfulDirections, columns, rows}
 use Rattle.mojette.specs.Bins.{raw}
@@ -53,7 +53,7 @@ pub record Apart (S : Pixels) (place : ℕ → ℕ → ℕ) (n : ℕ) : Type 0 w
 -- A set in which no pixel is alone in any bin reaches over C + 1 columns and R + 1 rows.
 abbrev pub Spans : Type 0
 Spans =
-    (P Q : ℕ) (ds : List Direction) (S : Pixels) → LawfulDirections ds → Within P Q S → Nonempty S → All (Paired S) ds
+    (P Q : ℕ) (ds : List Direction) (S : Pixels) → LawfulDirections ds → Within P Q S → Nonempty S → AllByRecursion (Paired S) ds
     → Apart S column (columns ds) × Apart S row (rows ds)
 
 -- Katz's criterion for a tile of P columns and Q rows
