@@ -18,7 +18,7 @@ pub record Shown (S : Type 0) : Type 0 where
 abbrev pub shown : {S : Type 0} → Outcome Criterion → List S → Shown S
 shown a picture = record { answer = a; picture = picture }
 
--- the ghost in the first P-as-Q cells, the others as they were
+-- the ghost in the first P·Q cells, the others as they were
 abbrev pub ghosted : {S : Type 0} → Operations S → Shape → List S → List S
 ghosted K s picture = ghost_tile K s.P s.Q (whole_of s) ++ drop (pixels_of s) picture
 
@@ -29,7 +29,7 @@ showing K s picture =
     (cond (criterion_of s).enough (shown (served (criterion_of s)) picture)
     (shown (served (criterion_of s)) (ghosted K s picture)))
 
--- The first P-as-Q cells are a ghost: not zero, and vanishing in every bin of every whole place.
+-- The first P·Q cells are a ghost: not zero, and vanishing in every bin of every whole place.
 abbrev pub HoldsGhost : {S : Type 0} → Operations S → Shape → List S → Type 0
 HoldsGhost K s picture = Ghost K s.P s.Q (whole_of s) (take (pixels_of s) picture)
 

@@ -1,7 +1,7 @@
 // Katz's criterion: whether the whole places of a plan tell the tile.
 ghost use Rattle.std.specs.Prelude.{◌≡◌};
 ghost use Rattle.mojette.specs.Bins.{whole};
-ghost use Rattle.mojette.specs.Directions.{columns as columns_of, rows as rows_of_lem};
+ghost use Rattle.mojette.specs.Directions.{columns as columns_of, rows as rows_of};
 ghost use Rattle.plan.specs.Criteria.{whole_of, criterion_of, KatzHolds};
 ghost use Rattle.plan.specs.Laid.{record_of};
 ghost use Rattle.plan.specs.Shapes.{shape};
@@ -31,7 +31,7 @@ impl Plan {
     // C and R.
     fn reach(&self) -> (usize, usize)
         ensures columns { result.0 ≡ columns_of (whole_of (shape self.now)) }
-        ensures rows { result.1 ≡ rows_of_lem (whole_of (shape self.now)) }
+        ensures rows { result.1 ≡ rows_of (whole_of (shape self.now)) }
     {
         let mut columns = 0;
         let mut rows = 0;

@@ -110,7 +110,7 @@ impl Plan {
         }
     }
 
-    // Where the criterion fails, writes the ghost of the whole places into the first P.Q cells of the picture.
+    // Where the criterion fails, writes the ghost of the whole places into the first P·Q cells of the picture.
     pub fn show_ghost<K: Kind>(&self, picture: &mut [K]) -> Result<Criterion, Fault>
         ensures value { shown (outcome result) picture.new ≡ showing K.Kind (shape self.now) picture.old }
         ensures unseen { LeavesGhost K.Kind (shape self.now) result picture.new }
