@@ -1,7 +1,7 @@
 -- What a source means: the size of a tile, its places, and the sums of the places that are whole.
 -- Which meanings are lawful, which tiles agree with one, and which tiles vanish in it.
 use Rattle.std.specs.Prelude.{◌≡◌, ℕ, suc, ◌*◌, ◌<◌, Bool, true, cond, ◌&&◌, List, [], ◌∷◌, map, length, Some, None, Option, nat_le, slice_index_or}
-use Rattle.std.specs.List.{AllByRecursion as All}
+use Rattle.std.specs.List.{AllByRecursion}
 use Rattle.samples.specs.declared.kind.Kind.{Ghosts as Operations}
 use Rattle.mojette.specs.declared.direction.Direction.{Direction}
 use Rattle.mojette.specs.declared.direction.Record.{Record}
@@ -75,13 +75,13 @@ module _ {S : Type 0} (K : Operations S) (m : Meaning S) where
   pub record Agrees (tile : List S) : Type 0 where
     pub size : length tile ≡ m.P * m.Q
     pub sums :
-        All (λ x. whole x.entry ≡ true → (b : ℕ) → b < bins m.P m.Q x.entry.direction
+        AllByRecursion (λ x. whole x.entry ≡ true → (b : ℕ) → b < bins m.P m.Q x.entry.direction
         → bin_sum K m.P m.Q tile x.entry.direction b ≡ slice_index_or x.sums b K.zero) m.places
 
   -- A ghost is a tile that is not zero, and sums to zero in every bin of every whole place.
   pub record Ghost (tile : List S) : Type 0 where
     pub size : length tile ≡ m.P * m.Q
     pub vanishes :
-        All (λ x. whole x.entry ≡ true → (b : ℕ) → b < bins m.P m.Q x.entry.direction
+        AllByRecursion (λ x. whole x.entry ≡ true → (b : ℕ) → b < bins m.P m.Q x.entry.direction
         → bin_sum K m.P m.Q tile x.entry.direction b ≡ K.zero) m.places
     pub nonzero : (c : ℕ) × (c < m.P * m.Q) × (¬ (slice_index_or tile c K.zero ≡ K.zero))

@@ -4,7 +4,7 @@ use Rattle.bracket.proofs.file.lines_of.Goals as goal
 
 pub returns-in_err-sizes : goal.returns-in_err-sizes
 returns-in_err-sizes g c =
-    let p = err_from_is_err_and c.from-residual.result c.from-residual.ensures.1 in
+    let p = err_from_is_err_and c.from_residual.result c.from_residual.ensures.1 in
     rw (p.1, p.2) (record {
       reads = file_told g.K.Kind g.K.Coded c.new-lexer.result c.file.new.self c.args.text.now c.file.new.lines c.file.result _ c.in_err-sizes.ensures c.new-lexer.ensures.0 c.new-lexer.ensures.1 c.file.ensures.reads;
       few = tt;

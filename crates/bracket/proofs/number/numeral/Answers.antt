@@ -3,7 +3,7 @@ use Rattle.bracket.proofs.OfNumerals.{no_digits, minus_nought, minus_some, small
 use Rattle.bracket.proofs.number.numeral.Goals as goal
 
 pub returns-in_err-n : goal.returns-in_err-n
-returns-in_err-n c = c.from-residual.ensures ∙ no_digits c.args.word.now (omega arith) c.if-word-eq45.true c.in_err-n.ensures
+returns-in_err-n c = c.from_residual.ensures ∙ no_digits c.args.word.now (omega arith) c.if-word-eq45.true c.in_err-n.ensures
 
 pub returns-then-n-eq0 : goal.returns-then-n-eq0
 returns-then-n-eq0 c = minus_nought c.args.word.now (omega arith) c.if-word-eq45.true c.in_ok-n.n c.if-n-eq0.true c.in_ok-n.ensures

@@ -10,7 +10,7 @@ loop-self-init g c = none_read g.K.Kind g.K.Coded c.args.columns c.args.rows c.a
 
 pub returns-in_err-more : goal.returns-in_err-more
 returns-in_err-more g c =
-    let p = err_from_is_err_and c.from-residual.result c.from-residual.ensures.1 in
+    let p = err_from_is_err_and c.from_residual.result c.from_residual.ensures.1 in
     rw (p.1, p.2) (record {
       reads = stops_at_start g.K.Kind g.K.Coded c.args.columns c.args.rows c.args.self.now c.loop-self.self c.loop-self.count c.loop-self.lines c.loop-self.last _ c.loop-self.invariant refl _ c.more.new.self _ c.in_err-more.ensures.reads;
       few = tt;
@@ -18,7 +18,7 @@ returns-in_err-more g c =
 
 pub returns-in_err-line : goal.returns-in_err-line
 returns-in_err-line g c =
-    let p = err_from_is_err_and c.from-residual-in_err-line.result c.from-residual-in_err-line.ensures.1 in
+    let p = err_from_is_err_and c.from_residual-in_err-line.result c.from_residual-in_err-line.ensures.1 in
     let inside : c.loop-self.count < most_places = ltb-true _ _ (c.in_ok-more.ensures.room c.if-branch.true) in
     rw (p.1, p.2) (record {
       reads = stops_at_line g.K.Kind g.K.Coded c.args.columns c.args.rows c.args.self.now c.loop-self.self c.loop-self.count c.loop-self.lines c.loop-self.last _ c.loop-self.invariant refl c.more.new.self _ c.in_ok-more.ensures.reads c.if-branch.true inside _ c.place.new.self _ c.in_err-line.ensures;
@@ -38,7 +38,7 @@ loop-self-preserved g c =
 
 pub returns-in_err-finish : goal.returns-in_err-finish
 returns-in_err-finish g c =
-    let p = err_from_is_err_and c.from-residual-in_err-finish.result c.from-residual-in_err-finish.ensures.1 in
+    let p = err_from_is_err_and c.from_residual-in_err-finish.result c.from_residual-in_err-finish.ensures.1 in
     rw (p.1, p.2) (record {
       reads = stops_at_end g.K.Kind g.K.Coded c.args.columns c.args.rows c.args.self.now c.loop-self.self c.loop-self.count c.loop-self.lines c.loop-self.last _ c.loop-self.invariant refl c.more.new.self _ c.in_ok-more.ensures.reads c.if-branch.false _ c.finish.new.self _ c.in_err-finish.ensures;
       few = tt;
