@@ -1,5 +1,5 @@
 -- Passing codes one by one.
-use Rattle.std.proofs.Common.{◌≡◌, ℕ, suc, ◌+◌, ◌-◌, ◌<◌, ◌≤◌, List, [], ◌∷◌, length, Ok, Err, codes as text, Result, sym, refl, ap, ◌∙◌, arith}
+use Rattle.std.proofs.Common.{◌≡◌, ℕ, suc, ◌+◌, ◌-◌, ◌<◌, ◌≤◌, List, ◌∷◌, length, Ok, Err, codes as text, Result, sym, refl, ap, ◌∙◌, arith}
 use Rattle.samples.specs.declared.coded.Coded.{Ghosts as Codes}
 use Rattle.samples.specs.declared.kind.Kind.{Ghosts as Operations}
 use Rattle.mojette.specs.declared.fault.TextFault.{TextFault}

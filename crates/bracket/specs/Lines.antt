@@ -6,7 +6,7 @@ use Rattle.mojette.specs.declared.direction.Direction.{Direction}
 use Rattle.mojette.specs.Bins.{bins, whole}
 use Rattle.mojette.specs.Meaning.{Place}
 use Rattle.format.specs.Format.{line_word, is_first}
-use Rattle.format.specs.Readers.{Reader, ◌>>=◌, ◌>>◌, expect, accept}
+use Rattle.format.specs.Readers.{Reader, ◌>>◌, expect, accept}
 use Rattle.bracket.specs.declared.line.Line.{Line}
 use Rattle.bracket.specs.Found.{found_from}
 

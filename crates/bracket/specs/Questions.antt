@@ -1,5 +1,5 @@
 -- The answers that a source's meaning gives to the three questions.
-use Rattle.std.specs.Prelude.{ℕ, cond, [], length, get_or, pos, nat_lt, slice_index_or}
+use Rattle.std.specs.Prelude.{ℕ, cond, [], length, pos, nat_lt, slice_index_or}
 use Rattle.samples.specs.declared.kind.Kind.{Ghosts as Operations}
 use Rattle.mojette.specs.declared.direction.Record.{Record}
 use Rattle.mojette.specs.Bins.{bins, whole}
@@ -14,7 +14,7 @@ abbrev pub asked_sizes : {S : Type 0} → Meaning S → ℕ × ℕ × ℕ
 asked_sizes m = (m.P, m.Q, length m.places)
 
 abbrev pub asked_place : {S : Type 0} → Meaning S → ℕ → Outcome Record
-asked_place m i = cond (nat_lt i (length m.places)) (served (get_or m.places i no_place).entry) (refuses (refusal 16 0 0 0))
+asked_place m i = cond (nat_lt i (length m.places)) (served (slice_index_or m.places i no_place).entry) (refuses (refusal 16 0 0 0))
 
 -- bin b of a place
 abbrev pub asked_in : {S : Type 0} → Operations S → ℕ → ℕ → Place S → ℕ → Outcome S

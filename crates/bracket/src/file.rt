@@ -42,10 +42,10 @@ impl<'a> Lexer<'a> {
 }
 
 // A result of reading a text, with the line of a wrong token.
-fn with_line<T>(text: &[u8], res: Result<T, TextFault>) -> Result<T, FileFault>
-    ensures { result ≡ lined text.now res }
+fn with_line<T>(text: &[u8], read: Result<T, TextFault>) -> Result<T, FileFault>
+    ensures { result ≡ lined text.now read }
 {
-    match res {
+    match read {
         Ok(value) => Ok(value),
         Err(fault) => Err(FileFault {
             line: line_of(text, fault.byte),

@@ -1,4 +1,6 @@
 // Reading bracket files.
+#![tactic(auto)]
+
 pub mod bracket_file;
 mod file;
 pub mod layout;

@@ -1,6 +1,6 @@
 -- The laws of the bracket file.
 use Rattle.std.specs.Prelude.{◌≡◌, ℕ, ◌≤◌, List}
-use Rattle.std.specs.List.{AllByRecursion as All}
+use Rattle.std.specs.List.{AllByRecursion}
 use Rattle.samples.specs.declared.coded.Coded.{Ghosts as Codes}
 use Rattle.samples.specs.declared.kind.Kind.{Ghosts as Operations}
 use Rattle.mojette.specs.Meaning.{Meaning, shape_of, Lawful}
@@ -8,7 +8,7 @@ use Rattle.format.specs.Format.{most_cause, read_file, file}
 use Rattle.format.specs.Texts.{trimmed, file_text}
 
 abbrev pub Causes : {S : Type 0} → Meaning S → Type 0
-Causes m = All (λ x. x.entry.cause ≤ most_cause) m.places
+Causes m = AllByRecursion (λ x. x.entry.cause ≤ most_cause) m.places
 
 module _ {S : Type 0} (K : Operations S) (C : Codes S) where
   -- Reading the text of a lawful meaning gives it back.

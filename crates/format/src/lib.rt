@@ -1,4 +1,6 @@
 // The bracket file: its text, what reading a text gives, and the laws that tie them.
+#![tactic(auto)]
+
 ghost use Rattle.format.specs.Kinds.{pair_operations};
 ghost use Rattle.format.specs.Laws.{OneText};
 ghost use Rattle.format.specs.Tokens.{IsWord};

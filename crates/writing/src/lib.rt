@@ -1,4 +1,6 @@
 // Writing text.
+#![tactic(auto)]
+
 pub mod listing;
 mod put;
 mod tile;

@@ -4,4 +4,7 @@ use Rattle.bracket.proofs.layout.Layout.of.Goals as goal
 pub invariant_of-result : goal.invariant_of-result
 invariant_of-result g c =
     let r = c.in_ok-columns.ensures in
-    (lawful_layout g.K.Kind g.K.Coded c.args.text.now c.in_ok-columns.columns c.in_ok-columns.rows _ r.reads, (r.few, tt))
+    record {
+      lawful = lawful_layout g.K.Kind g.K.Coded c.args.text.now c.in_ok-columns.columns c.in_ok-columns.rows _ r.reads;
+      few = r.few;
+    }
