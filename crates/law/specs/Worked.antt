@@ -34,7 +34,7 @@ pub record Ends : Type 0 where
   pub life : Life sum_words example calls finished tables
   pub shows : cells example tables ≡ 1 ∷ 2 ∷ 3 ∷ 4 ∷ []
 
--- The calls of two workers, the newest first: one holds bin 0 and gives it back, the other settles bin 2 meanwhile.
+-- The calls of two workers, the newest first: one holds bin 0 and gives it back; the other takes bin 2 meanwhile, and settles it.
 abbrev pub two_workers : History
 two_workers =
     event finishes done
