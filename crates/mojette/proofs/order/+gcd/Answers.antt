@@ -5,6 +5,3 @@ use Rattle.mojette.proofs.order.+gcd.Goals as goal
 
 pub returns-then-b-eq0 : goal.returns-then-b-eq0
 returns-then-b-eq0 t c = record { value = sym (ap (gcd c.args.a) c.if-b-eq0.true ∙ euclid.ends c.args.a); rule = euclid }
-
-pub returns-else-b-eq0 : goal.returns-else-b-eq0
-returns-else-b-eq0 t c = record { value = c.gcd.ensures.value ∙ sym (euclid.goes_on c.args.a c.args.b c.if-b-eq0.false); rule = euclid }

@@ -1,4 +1,4 @@
-use Rattle.std.proofs.Common.{◌≡◌, ◌<◌, ◌≤◌, length, get_or, Some, sym, refl, ap, ◌∙◌, arith, lit<}
+use Rattle.std.proofs.Common.{◌≡◌, ◌<◌, ◌≤◌, length, get_or, Some, sym, ap, ◌∙◌, arith}
 use Rattle.std.proofs.lemmas.Bool.{cond-true, cond-false, and_left, ne_eqb}
 use Rattle.samples.specs.Codes.{is_code}
 use Rattle.samples.proofs.Codings.{one_to_one}
@@ -12,9 +12,6 @@ returns-then-word-digits g c =
       value = sym (cond-false (is_code g.K.Coded.width c.args.word.now) _ _ (and_left _ _ (ne_eqb (length c.args.word.now) g.K.Coded.width ne)));
       law = one_to_one g.K.Coded;
     }
-
-pub loop-b-init : goal.loop-b-init
-loop-b-init g c = (lit< tt, omega arith, refl)
 
 pub returns-in_err-digit : goal.returns-in_err-digit
 returns-in_err-digit g c = record {

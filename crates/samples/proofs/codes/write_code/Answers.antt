@@ -1,4 +1,4 @@
-use Rattle.std.proofs.Common.{◌≡◌, ◌+◌, ◌-◌, ◌^◌, ◌<◌, ◌++◌, drop, sym, refl, ap, ◌∙◌, subst, subst₂, arith}
+use Rattle.std.proofs.Common.{◌≡◌, ◌+◌, ◌-◌, ◌^◌, ◌<◌, ◌++◌, drop, sym, refl, ap, ◌∙◌, subst, arith}
 use Rattle.samples.specs.Codes.{hex_text}
 use Rattle.samples.proofs.Digits.{length-hex_text}
 use Rattle.samples.proofs.Loops.{less_left, digit_written}
@@ -6,12 +6,6 @@ use Rattle.samples.proofs.codes.write_code.Goals as goal
 
 pub returns-then-out-width : goal.returns-then-out-width
 returns-then-out-width g c = (omega (arith, c.digits-width.ensures, length-hex_text g.K.Coded.width (g.K.Coded.number c.args.sample)), refl)
-
-pub loop-i-init : goal.loop-i-init
-loop-i-init g c = (
-  subst₂ (λ k m. m < 16 ^ k) (sym c.digits-width.ensures) (sym c.to_number-rest.ensures) (g.K.Coded.coding.number_fits c.args.sample),
-  refl,
-)
 
 pub loop-i-preserved : goal.loop-i-preserved
 loop-i-preserved g c =
@@ -21,15 +15,4 @@ loop-i-preserved g c =
       less_left (c.loop-i.i - 1) c.loop-i.rest below,
       digit_written (c.loop-i.i - 1) c.loop-i.rest c.hex_byte.result c.loop-i.out below (omega arith) c.hex_byte.ensures
           ∙ ap (λ k. hex_text k c.loop-i.rest ++ drop k c.loop-i.out) (sym e) ∙ v.1,
-    )
-
-pub returns : goal.returns
-returns g c =
-    let v = c.loop-i.invariant in
-    let l = length-hex_text g.K.Coded.width (g.K.Coded.number c.args.sample) in
-    let w = c.digits-width.ensures in
-    let z : c.loop-i.i ≡ 0 = omega arith in (
-      w ∙ sym l,
-      sym (ap (λ k. hex_text k c.loop-i.rest ++ drop k c.loop-i.out) z) ∙ v.1
-          ∙ (λ i. hex_text (w i) (c.to_number-rest.ensures i) ++ drop ((w ∙ sym l) i) c.args.out.now),
     )

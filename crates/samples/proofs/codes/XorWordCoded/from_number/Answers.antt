@@ -1,6 +1,0 @@
-use Rattle.std.proofs.Common.{refl}
-use Rattle.samples.specs.Words.{xor_same}
-use Rattle.samples.proofs.codes.XorWordCoded.from_number.Goals as goal
-
-pub returns : goal.returns
-returns c = xor_same _ _ (refl)
