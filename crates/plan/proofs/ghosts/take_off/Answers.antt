@@ -1,12 +1,6 @@
 use Rattle.std.proofs.Common.{◌-◌, arith, rules}
-use Rattle.plan.proofs.Taking.{step_of, none_done, row_begins, row_ends, rows_end, pixel_taken, stepped, walk_shows}
+use Rattle.plan.proofs.Taking.{step_of, row_begins, row_ends, rows_end, pixel_taken, stepped, walk_shows}
 use Rattle.plan.proofs.ghosts.take_off.Goals as goal
-
-pub loop-l-init : goal.loop-l-init
-loop-l-init g c = λ f s. none_done g.K.Kind c.args.size.columns c.args.size.rows f c.args.picture.now _ (omega arith)
-
-pub loop-k-init : goal.loop-k-init
-loop-k-init g c = λ f old s walk. walk
 
 pub loop-l-preserved : goal.loop-l-preserved
 loop-l-preserved g c =

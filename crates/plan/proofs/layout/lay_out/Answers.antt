@@ -1,4 +1,4 @@
-use Rattle.std.proofs.Common.{◌≡◌, ◌+◌, ◌<◌, ◌≤◌, false, [], ◌∷◌, ◌++◌, length, get_or, take, is_some, sym, refl, ap, ◌∙◌, subst, zero-add, arith, lit≤}
+use Rattle.std.proofs.Common.{◌≡◌, ◌+◌, ◌<◌, ◌≤◌, false, [], ◌∷◌, ◌++◌, length, get_or, take, is_some, sym, ap, ◌∙◌, subst, zero-add, arith}
 use Rattle.std.proofs.lemmas.List.{take_more, take_more_set, take_all, length-set}
 use Rattle.mojette.specs.declared.direction.Record.{Record}
 use Rattle.mojette.specs.Bins.{bins, all_bins}
@@ -20,9 +20,6 @@ size_few c =
 
 pub overflow_add-total : goal.overflow_add-total
 overflow_add-total c = let few = size_few c in let v = c.loop-i.invariant in omega (arith, c.requires.number.1)
-
-pub loop-i-init : goal.loop-i-init
-loop-i-init c = (refl, refl, lit≤ tt, lit≤ tt, refl)
 
 pub loop-i-preserved : goal.loop-i-preserved
 loop-i-preserved c =

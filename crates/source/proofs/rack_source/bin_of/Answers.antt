@@ -1,7 +1,7 @@
 use Rattle.std.proofs.Common.{arith, rules}
 use Rattle.std.proofs.lemmas.Result.{err_from_is_err_and}
 use Rattle.mojette.specs.Faults.{refusal_of}
-use Rattle.source.proofs.Cuts.{run_of, no_place_answer, lost_answer, place_inside, no_bin_answer, bin_inside, bin_answer}
+use Rattle.source.proofs.Cuts.{run_of, no_place_answer, lost_answer, no_bin_answer, bin_inside, bin_answer}
 use Rattle.source.proofs.rack_source.bin_of.Goals as goal
 
 pub returns-in_err-record : goal.returns-in_err-record
@@ -15,15 +15,6 @@ pub returns-then-record-ne0 : goal.returns-then-record-ne0
 returns-then-record-ne0 g c =
     lost_answer g.K.Kind c.args.plan.now.size.columns c.args.plan.now.size.rows c.args.records.now c.args.run.now c.args.i c.args.b
     c.in_ok-record.record c.in_ok-record.ensures c.if-record-ne0.true
-
-pub bounds-places-i : goal.bounds-places-i
-bounds-places-i g c =
-    place_inside g.K.Kind c.args.plan.now.size.columns c.args.plan.now.size.rows c.args.records.now c.args.run.now c.args.i c.args.b
-    c.in_ok-record.record c.in_ok-record.ensures c.places.result.now
-    (run_of c.args.plan.now c.args.records.now c.args.run.now c.places.result.now c.places.ensures c.requires.same c.requires.full)
-
-pub offset_bounds-places-i : goal.offset_bounds-places-i
-offset_bounds-places-i g c = let inside = bounds-places-i g c in search rules
 
 pub returns-then-b-place : goal.returns-then-b-place
 returns-then-b-place g c =

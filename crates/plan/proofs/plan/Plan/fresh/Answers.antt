@@ -32,13 +32,3 @@ invariant_of-result-2 c = record {
   some_bins = lit≤ tt;
   few_bins = lit< tt;
 }
-
-pub invariant_of-result : goal.invariant_of-result
-invariant_of-result c = record {
-  columns_ok = refl;
-  rows_ok = refl;
-  some_columns = lit≤ tt;
-  few_columns = lit≤ tt;
-  some_rows = lit≤ tt;
-  few_rows = lit≤ tt;
-}

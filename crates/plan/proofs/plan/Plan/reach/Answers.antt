@@ -1,12 +1,9 @@
-use Rattle.std.proofs.Common.{◌+◌, ◌≤◌, sym, ap, ◌∙◌, arith, rules}
+use Rattle.std.proofs.Common.{◌+◌, ◌≤◌, sym, ◌∙◌, arith, rules}
 use Rattle.plan.specs.Laid.{place_at}
 use Rattle.plan.proofs.Cells.{size_of}
-use Rattle.plan.proofs.Reaching.{columns_total, rows_total, over, over_whole, over_lost, over_end, plan_most}
+use Rattle.plan.proofs.Reaching.{columns_total, rows_total, over_whole, over_lost, over_end, plan_most}
 use Rattle.plan.proofs.plan.Plan.reach.Goals as goal
 use Rattle.plan.proofs.plan.Plan.reach.Goals.{then-is_whole, else-is_whole}
-
-pub loop-place-init : goal.loop-place-init
-loop-place-init c = let e = c.places-place-items.ensures in (omega (arith, ap (over columns_total) e), omega (arith, ap (over rows_total) e))
 
 pub overflow_add-columns : goal.overflow_add-columns
 overflow_add-columns c =

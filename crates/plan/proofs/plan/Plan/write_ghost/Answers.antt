@@ -2,7 +2,7 @@ use Rattle.std.proofs.Common.{sym, ◌∙◌, arith}
 use Rattle.plan.specs.Shapes.{shape, places_of}
 use Rattle.plan.proofs.Enough.{spark_inside, ghost_stands, place_narrow}
 use Rattle.plan.proofs.Lawful.{place_lawful}
-use Rattle.plan.proofs.Making.{makes_start, makes_whole, makes_lost, makes_end}
+use Rattle.plan.proofs.Making.{makes_whole, makes_lost, makes_end}
 use Rattle.plan.proofs.plan.Plan.write_ghost.Goals as goal
 use Rattle.plan.proofs.plan.Plan.write_ghost.Goals.{then-is_whole, else-is_whole}
 
@@ -10,12 +10,6 @@ pub write_spark-requires : goal.write_spark-requires
 write_spark-requires g c =
     let plan = c.args.self.now in
     record { room = c.requires.room; inside = omega (arith, spark_inside (shape plan) c.requires.fails, c.spark_column.ensures) }
-
-pub loop-place-init : goal.loop-place-init
-loop-place-init g c =
-    let plan = c.args.self.now in
-    makes_start g.K.Kind plan.size.columns plan.size.rows c.places-place-items.result.now (places_of plan) c.spark_column.result c.write_spark.new.picture
-    c.places-place-items.ensures c.spark_column.ensures c.write_spark.ensures.shows
 
 pub take_off-requires : goal.take_off-requires
 take_off-requires g c =
