@@ -1,4 +1,5 @@
 pub mod Adding
+pub mod Calls
 pub mod Cells
 pub mod Enough
 pub mod Lawful

@@ -7,7 +7,5 @@ use samples::Kind;
 pub(crate) fn clear<K: Kind>(cells: &mut [K])
     ensures { (b : ℕ) → slice_index_or cells.new b K.zero ≡ K.zero }
 {
-    for cell in cells.iter_mut() {
-        *cell = K::zero_sample();
-    }
+    cells.fill_with(|| K::zero_sample());
 }
