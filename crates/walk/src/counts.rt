@@ -80,10 +80,7 @@ pub fn count_pixels(plan: &Plan, counts: &mut [u8]) -> Result<(), Fault>
     if counts.len() < plan.total() {
         return Err(Fault::ShortTable(Table::Counts));
     }
-    let size = Size {
-        columns: plan.columns(),
-        rows: plan.rows(),
-    };
+    let size = plan.size();
     let places = plan.places();
     for place in places {
         count_place(size, *place, counts);

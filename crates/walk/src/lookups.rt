@@ -9,7 +9,6 @@ ghost use Rattle.walk.specs.Lying.{LiesWherever};
 use crate::line::Line;
 use crate::lines::row_along;
 use crate::pixel::Pixel;
-use mojette::Size;
 use plan::{Place, Plan};
 
 // The place and the bin at a position; none where the plan has no such position.
@@ -40,10 +39,7 @@ pub fn lone_pixel(plan: &Plan, at: usize, marks: &[u8]) -> Option<Pixel>
     if place.cause != 0 {
         return None;
     }
-    let size = Size {
-        columns: plan.columns(),
-        rows: plan.rows(),
-    };
+    let size = plan.size();
     Line { size, place, bin }.lone(marks)
 }
 

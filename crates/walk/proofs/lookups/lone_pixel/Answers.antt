@@ -14,12 +14,12 @@ pub invariant_of-lone : goal.invariant_of-lone
 invariant_of-lone c =
     let stands = c.in_ok-i.ensures.stands in
     record {
-      on_tile = line_of c.args.plan.now c.in_ok-i.i stands.known c.columns.result c.rows.result (nth c.places.result.now c.in_ok-i.i)
-          c.columns.ensures c.rows.ensures (ap (λ ys. nth ys c.in_ok-i.i) c.places.ensures) c.in_ok-i.bin stands.inside;
+      on_tile = line_of c.args.plan.now c.in_ok-i.i stands.known c.size-size.result.columns c.size-size.result.rows (nth c.places.result.now c.in_ok-i.i)
+          c.size-size.ensures.columns c.size-size.ensures.rows (ap (λ ys. nth ys c.in_ok-i.i) c.places.ensures) c.in_ok-i.bin stands.inside;
     }
 
 pub returns-clause-is : goal.returns-clause-is
 returns-clause-is c =
     lone_in_whole c.args.plan.now c.args.marks.now c.args.at c.in_ok-i.i c.in_ok-i.bin c.in_ok-i.ensures.stands
     (omega (arith, c.pixels.ensures, c.if-marks-pixels.false)) (nth c.places.result.now c.in_ok-i.i) (ap (λ ys. nth ys c.in_ok-i.i) c.places.ensures)
-    c.columns.result c.rows.result c.lone.result c.columns.ensures c.rows.ensures c.if-place-ne0.false c.lone.ensures.is
+    c.size-size.result.columns c.size-size.result.rows c.lone.result c.size-size.ensures.columns c.size-size.ensures.rows c.if-place-ne0.false c.lone.ensures.is
