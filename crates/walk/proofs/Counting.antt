@@ -1,10 +1,10 @@
 -- The counts of a place, bin after bin.
-use Rattle.std.proofs.Common.{◌≡◌, ℕ, ◌+◌, ◌-◌, ◌*◌, ◌<◌, ◌≤◌, ◌&&◌, ◌⊎◌, sym, ap, ◌∙◌, inl, inr, ⊎_elim, arith}
-use Rattle.std.proofs.lemmas.Bool.{eq-eqb, ne_eqb, cases_lt}
-use Rattle.mojette.specs.Bins.{bins, in_bin}
+use Rattle.std.proofs.Common.{◌≡◌, ℕ, ◌+◌, ◌-◌, ◌*◌, ◌<◌, ◌≤◌, true, false, ◌&&◌, ◌⊎◌, sym, ap, ◌∙◌, inl, inr, ⊎_elim, arith}
+use Rattle.std.proofs.lemmas.Bool.{cases_lt}
+use Rattle.mojette.specs.Bins.{bins, in_bin, whole}
 use Rattle.peeling.proofs.Counts.{number_same, number_zero}
 use Rattle.plan.specs.declared.places.Place.{Place}
-use Rattle.plan.specs.Laid.{direction_of}
+use Rattle.plan.specs.Laid.{direction_of, record_of}
 use Rattle.plan.proofs.Cells.{size_of}
 use Rattle.walk.specs.Counts.{pixels_of_bin}
 use Rattle.walk.specs.Lines.{OnTile}
@@ -19,12 +19,12 @@ module _ (P Q : ℕ) (x : Place) where
   abbrev N : ℕ → ℕ
   N = pixels_of_bin P Q x
 
-  pub none_in_lost : (x.cause ≡ 0 → ⊥) → (b : ℕ) → 0 ≡ N b
-  none_in_lost ne b = sym (number_zero (P * Q) _ (λ c l. ap (λ t. t && in_bin P Q (direction_of x) c b) (ne_eqb x.cause 0 ne)))
+  pub none_in_lost : whole (record_of x) ≡ false → (b : ℕ) → 0 ≡ N b
+  none_in_lost lost b = sym (number_zero (P * Q) _ (λ c l. ap (λ t. t && in_bin P Q (direction_of x) c b) lost))
 
-  module _ (is_whole : x.cause ≡ 0) where
+  module _ (is_whole : whole (record_of x) ≡ true) where
     by_rows : (b : ℕ) → N b ≡ in_rows P Q x.q x.slope b
-    by_rows b = number_same (P * Q) _ _ (λ c l. ap (λ t. t && in_bin P Q (direction_of x) c b) (eq-eqb x.cause 0 is_whole)) ∙ pixels_by_rows P Q x b
+    by_rows b = number_same (P * Q) _ _ (λ c l. ap (λ t. t && in_bin P Q (direction_of x) c b) is_whole) ∙ pixels_by_rows P Q x b
 
     -- A direction along an edge -----------------------------------------------------------------------------------
 

@@ -1,7 +1,9 @@
 // Counting the pixels of all bins.
-ghost use Rattle.std.specs.Prelude.{◌≡◌, ℕ, ◌≤◌, ◌<◌, length, slice_index};
+ghost use Rattle.std.specs.Prelude.{◌≡◌, ℕ, ◌≤◌, ◌<◌, true, length, slice_index};
+ghost use Rattle.mojette.specs.Bins.{whole};
 ghost use Rattle.mojette.specs.Faults.{refused};
 ghost use Rattle.law.specs.Steps.{written};
+ghost use Rattle.plan.specs.Laid.{record_of};
 ghost use Rattle.plan.specs.Shapes.{shape};
 ghost use Rattle.walk.specs.Counts.{counting_refused, counts_after, LaidWithin, pixels_of_bin};
 ghost use Rattle.walk.specs.Lines.{OnTile};
@@ -29,7 +31,8 @@ impl Columns {
 // row before it, moved by that row, with those of a column that begins there, and without those of a column that has come to its end.
 fn count_slanted(size: Size, place: Place, bins: &mut [u8])
     requires line { OnTile size.columns size.rows place.q place.slope 0 }
-    requires slanted { (place.cause ≡ 0) × ((1 ≤ place.q) × (1 ≤ place.slope)) }
+    requires place { whole (record_of place) ≡ true }
+    requires slanted { (1 ≤ place.q) × (1 ≤ place.slope) }
     ensures { (b : ℕ) → b < length bins.old → slice_index bins.new b ≡ pixels_of_bin size.columns size.rows place b }
 {
     let width = size.columns * place.q;
@@ -55,13 +58,13 @@ fn count_slanted(size: Size, place: Place, bins: &mut [u8])
     }
 }
 
-// Counts the pixels of the bins of one place.
+// Counts the pixels of the bins of one place. Rows and columns are at most 64, and fit a byte.
 fn count_place(size: Size, place: Place, counts: &mut [u8])
     requires { LaidWithin size.columns size.rows place (length counts.old) }
     ensures { counts.new ≡ written place.start place.bins (pixels_of_bin size.columns size.rows place) counts.old }
 {
     let bins = &mut counts[place.start..place.start + place.bins];
-    if place.cause != 0 {
+    if !place.is_whole() {
         bins.fill(0);
     } else if place.slope == 0 {
         bins.fill(size.rows as u8);

@@ -1,22 +1,10 @@
 // Walking along the pixels of a line. A pixel is known by x, its columns to the right edge, and y, its rows along.
 ghost use Rattle.std.specs.Prelude.{◌≡◌, ◌*◌, ◌<◌, ◌≤◌, length, IfSome, MatchOption};
-ghost use Rattle.plan.specs.Laid.{turned};
 ghost use Rattle.walk.specs.Finding.{OfTile};
 ghost use Rattle.walk.specs.Walking.{Corner, First, Empty, pixel_at, missing};
 
 use crate::line::Line;
 use crate::pixel::Pixel;
-
-// A row from the top, or from the bottom where the direction goes left; and back.
-pub(crate) fn row_along(rows: usize, leftward: bool, row: usize) -> usize
-    ensures { result ≡ turned leftward rows row }
-{
-    if leftward {
-        rows.saturating_sub(1).saturating_sub(row)
-    } else {
-        row
-    }
-}
 
 impl Line {
     // A pixel that no pixel of the line comes before, near the first of them: one division saves the walk along the edge.
@@ -39,6 +27,7 @@ impl Line {
         ensures { MatchOption result (Empty self) (λ w. First self w.0 w.1) }
     {
         let (mut x, mut y) = self.corner();
+        // One of two numbers steps, by where the last step led: no range or slice has these steps.
         loop {
             let at = x * self.place.q + y * self.place.slope;
             if at == self.bin {
@@ -61,7 +50,11 @@ impl Line {
         ensures { result ≡ pixel_at self x y }
     {
         let column = self.size.columns - 1 - x;
-        let row = row_along(self.size.rows, self.place.leftward, y);
+        let row = if self.place.leftward {
+            self.size.rows - 1 - y
+        } else {
+            y
+        };
         let cell = row * self.size.columns + column;
         Pixel { column, row, cell }
     }
@@ -74,6 +67,7 @@ impl Line {
     {
         let (mut x, mut y) = self.first()?;
         let mut lone = None;
+        // Two numbers step in a loop: with an iterator over the pixels a whole tile took a seventh longer to rebuild.
         loop {
             let pixel = self.pixel(x, y);
             if marks[pixel.cell] == 0 {

@@ -7,7 +7,6 @@ ghost use Rattle.walk.specs.Finding.{standing, Stands, lone, OfTile};
 ghost use Rattle.walk.specs.Lying.{LiesWherever};
 
 use crate::line::Line;
-use crate::lines::row_along;
 use crate::pixel::Pixel;
 use plan::{Place, Plan};
 
@@ -36,7 +35,7 @@ pub fn lone_pixel(plan: &Plan, at: usize, marks: &[u8]) -> Option<Pixel>
     }
     let (i, bin) = place_of(plan, at)?;
     let place = plan.places()[i];
-    if place.cause != 0 {
+    if !place.is_whole() {
         return None;
     }
     let size = plan.size();
@@ -44,13 +43,18 @@ pub fn lone_pixel(plan: &Plan, at: usize, marks: &[u8]) -> Option<Pixel>
 }
 
 // The position of the bin of a place in which a pixel lies: one sum for any numbers, which is that position where the place is one
-// of a plan for so many columns and rows, and the pixel one of its tile.
+// of a plan for so many columns and rows, and the pixel one of its tile. Two numbers and no size, which would ask more of callers;
+// so differences stop at 0 here.
 pub fn bin_at(columns: usize, rows: usize, place: &Place, pixel: Pixel) -> usize
     ensures sum { result ≡ (place.now.start + bin_number columns rows place.now pixel.column pixel.row) % 2 ^ 64 }
     ensures lies { LiesWherever columns rows place.now pixel result }
 {
     let across = columns.saturating_sub(1).saturating_sub(pixel.column);
-    let along = row_along(rows, place.leftward, pixel.row);
+    let along = if place.leftward {
+        rows.saturating_sub(1).saturating_sub(pixel.row)
+    } else {
+        pixel.row
+    };
     let bin = across
         .wrapping_mul(place.q)
         .wrapping_add(along.wrapping_mul(place.slope));

@@ -19,10 +19,10 @@ turn_at : (c : Joined-b-place) (begun : ℕ) → begun ≡ columns_at c.args.siz
     → (pixels_of_bin c.args.size.columns c.args.size.rows c.args.place c.loop-b.b + columns_at c.args.size.columns c.args.place.q (c.args.size.rows * c.args.place.slope) c.loop-b.b
     ≡ c.if-b-place.before + begun) × (c.if-b-place.before + begun ≤ c.args.size.rows + 1)
 turn_at c begun e =
-    turn c.args.size.columns c.args.size.rows c.args.place c.requires.slanted.0 c.requires.line.some_rows c.requires.slanted.1.0 c.loop-b.b c.if-b-place.before begun e
+    turn c.args.size.columns c.args.size.rows c.args.place c.requires.place c.requires.line.some_rows c.requires.slanted.0 c.loop-b.b c.if-b-place.before begun e
     (elim c.if-b-place.branch [
       | then-b-place w ↦ inl (w.if-b-place.true, w.before-is)
-      | else-b-place w ↦ inr (w.if-b-place.false, w.before-is ∙ c.loop-b.invariant.counts _ (omega (arith, w.if-b-place.false, c.requires.slanted.1.1)))
+      | else-b-place w ↦ inr (w.if-b-place.false, w.before-is ∙ c.loop-b.invariant.counts _ (omega (arith, w.if-b-place.false, c.requires.slanted.1)))
     ])
 
 pub overflow_add-bins : goal.overflow_add-bins
