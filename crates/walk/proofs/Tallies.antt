@@ -173,9 +173,6 @@ module _ (x y : Columns) (P q first b : ℕ) (c : Coming P q first b x) (end : y
           (λ (far : x.end ≤ b). absurd (omega (arith, c.end, c.ahead k l h, apart P q first b some k P l)))
           miss
 
-pub none_passed : (P q first : ℕ) (x : Columns) → x.q ≡ q → x.end ≡ first + P * q → x.next ≡ first → Coming P q first 0 x
-none_passed P q first x step end next = record { step = step; end = end; j = 0; next = omega (arith, next); past = λ k h. absurd (omega arith); ahead = λ k h h'. omega arith }
-
 module _ (P Q q s : ℕ) where
   -- a bin has at most one pixel of each row
   pub rows_most : 1 ≤ q → (b : ℕ) → in_rows P Q q s b ≤ Q

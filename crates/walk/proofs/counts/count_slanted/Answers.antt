@@ -1,18 +1,10 @@
-use Rattle.std.proofs.Common.{◌≡◌, ℕ, ◌+◌, ◌-◌, ◌*◌, ◌<◌, ◌≤◌, get_or, set, refl, ap, ◌∙◌, inl, inr, arith, rules}
+use Rattle.std.proofs.Common.{◌≡◌, ℕ, ◌+◌, ◌-◌, ◌*◌, ◌<◌, ◌≤◌, get_or, set, ap, ◌∙◌, inl, inr, arith, rules}
 use Rattle.std.proofs.lemmas.List.Edits.{fill_by_more}
 use Rattle.walk.specs.Counts.{pixels_of_bin}
 use Rattle.walk.specs.Passing.{columns_at}
 use Rattle.walk.proofs.Counting.{turn}
-use Rattle.walk.proofs.Tallies.{none_passed}
 use Rattle.walk.proofs.counts.count_slanted.Goals as goal
 use Rattle.walk.proofs.counts.count_slanted.Goals.{Joined-b-place, then-b-place, else-b-place}
-
-pub loop-b-init : goal.loop-b-init
-loop-b-init c = record {
-  begins = none_passed c.args.size.columns c.args.place.q 0 _ refl (omega arith) refl;
-  ends = none_passed c.args.size.columns c.args.place.q (c.args.size.rows * c.args.place.slope) _ refl refl refl;
-  counts = λ k h. absurd (omega arith);
-}
 
 -- by the count that is read
 turn_at : (c : Joined-b-place) (begun : ℕ) → begun ≡ columns_at c.args.size.columns c.args.place.q 0 c.loop-b.b
