@@ -1,9 +1,9 @@
 -- The pixel that is found, as the contracts say it.
-use Rattle.std.proofs.Common.{◌≡◌, ℕ, ◌*◌, ◌<◌, ◌≤◌, Bool, false, cond, ◌&&◌, eqb, ltb, List, length, get_or, Some, None, Option, sym, ap, ◌∙◌, arith}
+use Rattle.std.proofs.Common.{◌≡◌, ℕ, ◌*◌, ◌<◌, ◌≤◌, Bool, true, false, cond, ◌&&◌, eqb, ltb, List, length, get_or, Some, None, Option, sym, ap, ◌∙◌, arith}
 use Rattle.std.proofs.lemmas.Bool.{cond-true, cond-false, and_from, and_left, and_right, eq-eqb, ne_eqb, lt-ltb, le-ltb, le-leb, lt-leb}
 use Rattle.mojette.specs.Bins.{in_bin, whole}
 use Rattle.mojette.specs.Meaning.{Shape, pixels_of, bins_of}
-use Rattle.peeling.specs.Counting.{number, least}
+use Rattle.peeling.specs.Counting.{number}
 use Rattle.peeling.proofs.Counts.{number_same, number_zero, least_same}
 use Rattle.law.specs.Positions.{incidence, place_at, bin_at}
 use Rattle.plan.specs.declared.places.Place.{Place}
@@ -13,19 +13,15 @@ use Rattle.plan.specs.Laid.{place_at as nth}
 use Rattle.plan.specs.Shapes.{shape, places_of}
 use Rattle.walk.specs.declared.pixel.Pixel.{Pixel}
 use Rattle.walk.specs.Finding.{standing, Stands, pixel_in, alone, missing_at, lone}
-use Rattle.walk.proofs.Cells.{miss}
 use Rattle.walk.proofs.Laying.{ends_inside, lies_is}
 
 -- The pixel that alone passes a test ------------------------------------------------------------------------------
 
 module _ (P Q : ℕ) where
-  pub alone_is : (test : ℕ → Bool) (x : Pixel) (c : ℕ) → number (P * Q) test ≡ 1 → least (P * Q) test ≡ c → x ≡ pixel_in P c → Some x ≡ alone P Q test
-  alone_is test x c one cell e = ap Some (e ∙ ap (pixel_in P) (sym cell)) ∙ sym (cond-true _ _ _ (eq-eqb _ 1 one))
-
-  pub none_alone : (test : ℕ → Bool) → (number (P * Q) test ≡ 1 → ⊥) → None ≡ alone P Q test
+  none_alone : (test : ℕ → Bool) → (number (P * Q) test ≡ 1 → ⊥) → None ≡ alone P Q test
   none_alone test none = sym (cond-false _ _ _ (ne_eqb _ 1 none))
 
-  pub alone_same : (p q : ℕ → Bool) → ((c : ℕ) → c < P * Q → p c ≡ q c) → alone P Q p ≡ alone P Q q
+  alone_same : (p q : ℕ → Bool) → ((c : ℕ) → c < P * Q → p c ≡ q c) → alone P Q p ≡ alone P Q q
   alone_same p q same =
       λ i. cond (eqb (number_same (P * Q) p q same i) 1) (Some (pixel_in P (least_same (P * Q) p q same i))) None
 
@@ -69,15 +65,16 @@ module _ (plan : Plan) (marks : List ℕ) (at i b : ℕ) (t : Stands plan at i b
   -- what the code holds of the place
   module _ (x : Place) (place : x ≡ own) where
     pub lone_in_whole :
-        (P Q : ℕ) (r : Option Pixel) → P ≡ plan.size.columns → Q ≡ plan.size.rows → x.cause ≡ 0 → r ≡ alone P Q (miss P Q x b marks) → r ≡ lone (shape plan) marks at
+        (P Q : ℕ) (r : Option Pixel) → P ≡ plan.size.columns → Q ≡ plan.size.rows → whole (record_of x) ≡ true
+        → r ≡ alone P Q (λ c. in_bin P Q (direction_of x) c b && eqb (get_or marks c 0) 0) → r ≡ lone (shape plan) marks at
     lone_in_whole P Q r columns rows e is =
-        is ∙ (λ j. alone (columns j) (rows j) (miss (columns j) (rows j) (place j) b marks))
+        is ∙ (λ j. alone (columns j) (rows j) (λ c. in_bin (columns j) (rows j) (direction_of (place j)) c b && eqb (get_or marks c 0) 0))
         ∙ sym (there ∙ alone_same plan.size.columns plan.size.rows _ _ (λ c l.
         ap (λ t. t && eqb (get_or marks c 0) 0)
-        (lies c ∙ ap (λ t. t && in_bin plan.size.columns plan.size.rows (direction_of own) c b) (eq-eqb _ 0 (sym (ap (λ z. z.cause) place) ∙ e)))))
+        (lies c ∙ ap (λ t. t && in_bin plan.size.columns plan.size.rows (direction_of own) c b) (sym (ap (λ z. whole (record_of z)) place) ∙ e))))
 
-    pub none_in_lost : (x.cause ≡ 0 → ⊥) → None ≡ lone (shape plan) marks at
-    none_in_lost ne =
+    pub none_in_lost : whole (record_of x) ≡ false → None ≡ lone (shape plan) marks at
+    none_in_lost e =
         lone_lost (shape plan) at marks (λ c.
-        lies c ∙ ap (λ t. t && in_bin plan.size.columns plan.size.rows (direction_of own) c b) (ne_eqb _ 0 (λ e. ne (ap (λ z. z.cause) place ∙ e))))
+        lies c ∙ ap (λ t. t && in_bin plan.size.columns plan.size.rows (direction_of own) c b) (sym (ap (λ z. whole (record_of z)) place) ∙ e))
         ∙ sym there

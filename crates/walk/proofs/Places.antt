@@ -1,5 +1,10 @@
 -- One turn of the count over the places.
-use Rattle.std.proofs.Common.{◌≡◌, ℕ, ◌+◌, ◌*◌, ◌<◌, ◌≤◌, List, length, sym, ap, ◌∙◌, subst, arith}
+use Rattle.std.proofs.Common.{◌≡◌, ℕ, zero, suc, ◌+◌, ◌-◌, ◌*◌, ◌<◌, ◌≤◌, List, length, get_or, set, sym, refl, ap, ◌∙◌, subst, arith}
+use Rattle.std.proofs.Math.Seq.{paste, paste-zero, paste-suc}
+use Rattle.std.proofs.lemmas.Slice.{put_mid-paste}
+use Rattle.std.proofs.Math.ListN.{replicate}
+use Rattle.std.proofs.lemmas.List.{length-take, length-drop, length-replicate, get_or-replicate}
+use borrow.Rule.Slice.PartMut.{mid_of, put_mid}
 use Rattle.mojette.specs.Bins.{start}
 use Rattle.mojette.specs.Meaning.{pixels_of, bins_of}
 use Rattle.peeling.specs.Counting.{number}
@@ -13,6 +18,7 @@ use Rattle.plan.specs.Laid.{records_of}
 use Rattle.plan.specs.Laid.{place_at as nth}
 use Rattle.plan.specs.Shapes.{shape, places_of}
 use Rattle.walk.specs.Counts.{LaidWithin, pixels_of_bin}
+use Rattle.walk.specs.Lines.{OnTile}
 use Rattle.walk.proofs.Laying.{bins_are, on_tile, start_is, next_is, ends_inside, lies_is}
 use Rattle.law.proofs.Writing.{filled_on}
 
@@ -24,6 +30,14 @@ module _ (plan : Plan) (i : ℕ) (l : i < length (places_of plan)) (P Q : ℕ) (
 
   abbrev starts : ℕ → ℕ
   starts n = start plan.size.columns plan.size.rows (records_of (places_of plan)) n
+
+  pub line_of : (b : ℕ) → b < (nth (places_of plan) i).bins → OnTile P Q x.q x.slope b
+  line_of b inside =
+      subst (λ z. OnTile P Q z.q z.slope b) (sym place) (subst (λ m. OnTile P m own.q own.slope b) (sym rows)
+      (subst (λ m. OnTile m plan.size.rows own.q own.slope b) (sym columns) (on_tile plan i l b inside)))
+    where
+      own : Place
+      own = nth (places_of plan) i
 
   pub laid_within : (n : ℕ) → bins_of (shape plan) ≤ n → LaidWithin P Q x n
   laid_within n long =
@@ -47,3 +61,31 @@ module _ (plan : Plan) (i : ℕ) (l : i < length (places_of plan)) (P Q : ℕ) (
     where
       own : Place
       own = nth (places_of plan) i
+
+-- A part of a list is written, cell after cell.
+part : (from n : ℕ) (f : ℕ → ℕ) (xs ys : List ℕ) → from + n ≤ length xs → n ≤ length ys → ((i : ℕ) → i < n → get_or ys i 0 ≡ f i)
+    → paste xs from ys n ≡ written from n f xs
+unfolding written
+part from zero f xs ys room long same = sym (paste-zero xs from ys)
+part from (suc n) f xs ys room long same =
+    sym (paste-suc xs from ys n 0 (omega arith) (omega arith))
+    ∙ (λ j. set (part from n f xs ys (omega arith) (omega arith) (λ i l. same i (omega arith)) j) (from + n) (same n (omega arith) j))
+
+module _ (from n : ℕ) (f : ℕ → ℕ) (xs ys : List ℕ) (room : from + n ≤ length xs) where
+  -- what `&mut xs[from..from + n]` held
+  abbrev was : List ℕ
+  was = mid_of from (from + n - from) xs
+
+  long : length was ≡ n
+  long = simp (length-take, length-drop) (omega arith)
+
+  pub written_part : length ys ≡ length was → ((i : ℕ) → i < length was → get_or ys i 0 ≡ f i) → put_mid from (from + n - from) xs ys ≡ written from n f xs
+  written_part e same =
+      let here = long in
+      put_mid-paste from (from + n - from) xs ys ys n refl (omega arith) (omega arith) ∙ part from n f xs ys room (omega arith) (λ i l. same i (omega arith))
+
+  -- where all cells of the part are the same
+  pub filled_part : (v : ℕ) → ys ≡ replicate (length was) v → ((i : ℕ) → i < n → v ≡ f i) → put_mid from (from + n - from) xs ys ≡ written from n f xs
+  filled_part v e same =
+      let here = long in
+      written_part (ap length e ∙ length-replicate (length was) v) (λ i l. ap (λ zs. get_or zs i 0) e ∙ get_or-replicate (length was) i v 0 l ∙ same i (omega arith))

@@ -4,7 +4,8 @@ use Rattle.std.proofs.lemmas.Nat.{mul-le}
 use Rattle.std.proofs.lemmas.Bool.{eq-eqb, ne_eqb, eqb-true, cases_eq, cases_lt, cases_order}
 use Rattle.peeling.specs.Counting.{tally, number, least, one_if}
 use Rattle.peeling.proofs.Counts.{tally_same, tally_zero, tally_front, tally_change, tally_le, number_same, number_zero, number_one, number_all, least_some, least_passes}
-use Rattle.walk.specs.Counts.{columns_at, Next}
+use Rattle.walk.specs.declared.columns.Columns.{Columns}
+use Rattle.walk.specs.Passing.{columns_at, Coming}
 
 -- Sums over parts, and backwards ----------------------------------------------------------------------------------
 
@@ -132,35 +133,45 @@ module _ (P q first b : ℕ) (some : 1 ≤ q) where
           let e = one_column at l (eqb-true _ b (least_passes P (λ x. eqb (first + x * q) b) l)) in
           omega arith
 
-  module _ (next : ℕ) (n : Next P q first b next) where
-    pub column_here : b ≡ next → b < first + P * q → (columns_at P q first b ≡ 1) × Next P q first (b + 1) (next + q)
-    column_here e l = (
-      one_column n.j inside (omega (arith, n.is)),
-      record {
-        j = n.j + 1;
-        is = omega (arith, n.is);
-        past = λ x h. omega (arith, n.is, mul-le x q n.j q (omega arith) (omega arith));
-        ahead = λ x h h'. omega (arith, n.is, apart n.j x (omega arith));
-      },
-    )
-      where
-        inside : n.j < P
-        inside = ⊎_elim (λ (k : n.j < P). k) (λ (k : P ≤ n.j). absurd (omega (arith, n.is, mul-le P q n.j q k (omega arith)))) (cases_lt n.j P)
+-- A turn at bin b takes the columns of x to those of y.
+module _ (x y : Columns) (P q first b : ℕ) (c : Coming P q first b x) (end : y.end ≡ x.end) (step : y.q ≡ x.q) where
+  some : 1 ≤ q
+  some = omega (arith, c.step, x.apart)
 
-    pub none_here : (b ≡ next → ⊥) ⊎ (first + P * q ≤ b) → (columns_at P q first b ≡ 0) × Next P q first (b + 1) next
-    none_here miss = (
-      no_column (λ x l e. ⊎_elim (λ (k : x < n.j). omega (arith, n.past x k)) (λ (k : n.j ≤ x). omega (arith, beyond x l k)) (cases_lt x n.j)),
-      record { j = n.j; is = n.is; past = λ x h. omega (arith, n.past x h); ahead = λ x h h'. omega (arith, beyond x h h') },
-    )
-      where
-        beyond : (x : ℕ) → x < P → n.j ≤ x → b < first + x * q
-        beyond x l k = ⊎_elim
-            (λ (ne : b ≡ next → ⊥). omega (arith, n.is, n.ahead n.j (omega arith) (omega arith), mul-le n.j q x q k (omega arith)))
-            (λ (far : first + P * q ≤ b). absurd (omega (arith, n.ahead x l k, apart x P l)))
-            miss
+  pub column_here : x.next ≡ b → b < x.end → y.next ≡ x.next + x.q → (1 ≡ columns_at P q first b) × Coming P q first (b + 1) y
+  column_here e l on = (
+    sym (one_column P q first b some c.j inside (omega (arith, c.next))),
+    record {
+      step = step ∙ c.step;
+      end = end ∙ c.end;
+      j = c.j + 1;
+      next = omega (arith, c.next, c.step);
+      past = λ k h. omega (arith, c.next, mul-le k q c.j q (omega arith) (omega arith));
+      ahead = λ k h h'. omega (arith, c.next, apart P q first b some c.j k (omega arith));
+    },
+  )
+    where
+      inside : c.j < P
+      inside = ⊎_elim (λ (k : c.j < P). k) (λ (k : P ≤ c.j). absurd (omega (arith, c.next, c.end, mul-le P q c.j q k (omega arith)))) (cases_lt c.j P)
 
-pub next_first : (P q first : ℕ) → Next P q first 0 first
-next_first P q first = record { j = 0; is = omega arith; past = λ x h. absurd (omega arith); ahead = λ x h h'. omega arith }
+  pub none_here : (x.next ≡ b → ⊥) ⊎ (x.end ≤ b) → y.next ≡ x.next → (0 ≡ columns_at P q first b) × Coming P q first (b + 1) y
+  none_here miss same = (
+    sym (no_column P q first b some (λ k l e. ⊎_elim (λ (h : k < c.j). omega (arith, c.past k h)) (λ (h : c.j ≤ k). omega (arith, beyond k l h)) (cases_lt k c.j))),
+    record {
+      step = step ∙ c.step;
+      end = end ∙ c.end;
+      j = c.j;
+      next = same ∙ c.next;
+      past = λ k h. omega (arith, c.past k h);
+      ahead = λ k h h'. omega (arith, beyond k h h');
+    },
+  )
+    where
+      beyond : (k : ℕ) → k < P → c.j ≤ k → b < first + k * q
+      beyond k l h = ⊎_elim
+          (λ (ne : x.next ≡ b → ⊥). omega (arith, c.next, c.ahead c.j (omega arith) (omega arith), mul-le c.j q k q h (omega arith)))
+          (λ (far : x.end ≤ b). absurd (omega (arith, c.end, c.ahead k l h, apart P q first b some k P l)))
+          miss
 
 module _ (P Q q s : ℕ) where
   -- a bin has at most one pixel of each row

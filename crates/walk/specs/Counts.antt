@@ -1,5 +1,5 @@
 -- Counting the pixels of all bins, one bin after another.
-use Rattle.std.specs.Prelude.{◌≡◌, ℕ, ◌+◌, ◌*◌, ◌<◌, ◌≤◌, Bool, cond, ◌&&◌, List, length, Some, None, Option, nat_eq, nat_lt}
+use Rattle.std.specs.Prelude.{◌≡◌, ℕ, ◌+◌, ◌*◌, ◌≤◌, Bool, cond, ◌&&◌, List, length, Some, None, Option, nat_lt}
 use Rattle.mojette.specs.Bins.{bins, in_bin, whole}
 use Rattle.mojette.specs.Meaning.{Shape, pixels_of, bins_of}
 use Rattle.mojette.specs.Refusals.{Refusal, refusal}
@@ -34,14 +34,3 @@ pub record LaidWithin (P Q : ℕ) (x : Place) (n : ℕ) : Type 0 where
 -- how many pixels bin b of a place has, if it is whole
 abbrev pub pixels_of_bin : ℕ → ℕ → Place → ℕ → ℕ
 pixels_of_bin P Q x b = number (P * Q) (λ c. whole (record_of x) && in_bin P Q (direction_of x) c b)
-
--- how many of P columns, q bins apart and the first of them at `first`, are at bin b
-abbrev pub columns_at : ℕ → ℕ → ℕ → ℕ → ℕ
-columns_at P q first b = number P (λ x. nat_eq (first + x * q) b)
-
--- Column `j` is the first that is not before bin b, and it is at `next`.
-pub record Next (P q first b next : ℕ) : Type 0 where
-  pub j : ℕ
-  pub is : next ≡ first + j * q
-  pub past : (x : ℕ) → x < j → first + x * q < b
-  pub ahead : (x : ℕ) → x < P → j ≤ x → b ≤ first + x * q

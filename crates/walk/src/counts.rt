@@ -1,73 +1,77 @@
 // Counting the pixels of all bins.
-ghost use Rattle.std.specs.Prelude.{◌≡◌, ◌+◌, ◌*◌, ◌^◌, ◌<◌, ◌≤◌, length};
+ghost use Rattle.std.specs.Prelude.{◌≡◌, ℕ, ◌≤◌, ◌<◌, true, length, slice_index};
+ghost use Rattle.mojette.specs.Bins.{whole};
 ghost use Rattle.mojette.specs.Faults.{refused};
 ghost use Rattle.law.specs.Steps.{written};
+ghost use Rattle.plan.specs.Laid.{record_of};
 ghost use Rattle.plan.specs.Shapes.{shape};
-ghost use Rattle.walk.specs.Counts.{counting_refused, counts_after, LaidWithin, pixels_of_bin, columns_at, Next};
+ghost use Rattle.walk.specs.Counts.{counting_refused, counts_after, LaidWithin, pixels_of_bin};
+ghost use Rattle.walk.specs.Lines.{OnTile};
+ghost use Rattle.walk.specs.Passing.{Passes};
 
-use mojette::{Fault, Table};
+use crate::columns::Columns;
+use mojette::{Fault, Size, Table};
 use plan::{Place, Plan};
 
-// The same count in each of a row of cells.
-fn fill(start: usize, bins: usize, n: u8, counts: &mut [u8])
-    requires { start + bins ≤ length counts.old }
-    ensures { counts.new ≡ written start bins (λ _. n) counts.old }
-{
-    for b in 0..bins {
-        counts[start + b] = n;
+impl Columns {
+    // How many of them are at a bin, 0 or 1. The bins before it have been passed.
+    fn pass(&mut self, bin: usize) -> u8
+        ensures { Passes self.old bin result self.new }
+    {
+        if self.next == bin && bin < self.end {
+            self.next += self.q;
+            1
+        } else {
+            0
+        }
     }
 }
 
-// How many columns are at a bin, 0 or 1. They stand q bins apart from `first` on, and the next to come is at `next`.
-fn pass(next: &mut usize, columns: usize, q: usize, first: usize, bin: usize) -> u8
-    requires size { (1 ≤ q) × (first + columns * q + q < 2 ^ 64) }
-    requires next { Next columns q first bin next.old }
-    ensures number { result ≡ columns_at columns q first bin }
-    ensures next { Next columns q first (bin + 1) next.new }
+// Counts the pixels of a direction that goes both across and down, in the bins of its place. A bin has the pixels of the bin one
+// row before it, moved by that row, with those of a column that begins there, and without those of a column that has come to its end.
+fn count_slanted(size: Size, place: Place, bins: &mut [u8])
+    requires line { OnTile size.columns size.rows place.q place.slope 0 }
+    requires place { whole (record_of place) ≡ true }
+    requires slanted { (1 ≤ place.q) × (1 ≤ place.slope) }
+    ensures { (b : ℕ) → b < length bins.old → slice_index bins.new b ≡ pixels_of_bin size.columns size.rows place b }
 {
-    if bin == *next && bin < first + columns * q {
-        *next += q;
-        1
-    } else {
-        0
-    }
-}
-
-// Counts the pixels of a direction that goes both across and down. A bin has the pixels of the bin one row before it, moved by
-// that row, with those of a column that begins there, and without those of a column that has come to its end.
-fn count_slanted(columns: usize, rows: usize, place: Place, counts: &mut [u8])
-    requires place { LaidWithin columns rows place (length counts.old) }
-    requires slanted { (place.cause ≡ 0) × ((1 ≤ place.q) × (1 ≤ place.slope)) }
-    ensures { counts.new ≡ written place.start place.bins (pixels_of_bin columns rows place) counts.old }
-{
-    let height = rows * place.slope;
-    let mut begins = 0;
-    let mut ends = height;
-    for b in 0..place.bins {
+    let width = size.columns * place.q;
+    let height = size.rows * place.slope;
+    let mut begins = Columns {
+        next: 0,
+        end: width,
+        q: place.q,
+    };
+    let mut ends = Columns {
+        next: height,
+        end: height + width,
+        q: place.q,
+    };
+    // By index, since a bin is counted from an earlier one.
+    for b in 0..bins.len() {
         let before = if b < place.slope {
             0
         } else {
-            counts[place.start + (b - place.slope)]
+            bins[b - place.slope]
         };
-        let begun = pass(&mut begins, columns, place.q, 0, b);
-        let ended = pass(&mut ends, columns, place.q, height, b);
-        counts[place.start + b] = before + begun - ended;
+        bins[b] = before + begins.pass(b) - ends.pass(b);
     }
 }
 
-// Counts the pixels of the bins of one place.
-fn count_place(columns: usize, rows: usize, place: Place, counts: &mut [u8])
-    requires { LaidWithin columns rows place (length counts.old) }
-    ensures { counts.new ≡ written place.start place.bins (pixels_of_bin columns rows place) counts.old }
+// Counts the pixels of the bins of one place. Rows and columns are at most 64, and fit a byte.
+fn count_place(size: Size, place: Place, counts: &mut [u8])
+    requires { LaidWithin size.columns size.rows place (length counts.old) }
+    ensures { counts.new ≡ written place.start place.bins (pixels_of_bin size.columns size.rows place) counts.old }
 {
-    if place.cause != 0 {
-        fill(place.start, place.bins, 0, counts);
+    let bins = &mut counts[place.start..place.start + place.bins];
+    if !place.is_whole() {
+        bins.fill(0);
     } else if place.slope == 0 {
-        fill(place.start, place.bins, rows as u8, counts);
+        bins.fill(size.rows as u8);
     } else if place.q == 0 {
-        fill(place.start, place.bins, columns as u8, counts);
+        bins.fill(size.columns as u8);
     } else {
-        count_slanted(columns, rows, place, counts);
+        count_slanted(size, place, bins);
     }
 }
 
@@ -79,11 +83,10 @@ pub fn count_pixels(plan: &Plan, counts: &mut [u8]) -> Result<(), Fault>
     if counts.len() < plan.total() {
         return Err(Fault::ShortTable(Table::Counts));
     }
-    let columns = plan.columns();
-    let rows = plan.rows();
+    let size = plan.size();
     let places = plan.places();
     for place in places {
-        count_place(columns, rows, *place, counts);
+        count_place(size, *place, counts);
     }
     Ok(())
 }

@@ -1,7 +1,9 @@
 // The pixels of a bin: finding the one that is missing, and counting them.
 #![tactic(auto)]
 
+pub mod columns;
 pub mod counts;
+pub mod line;
 pub mod lines;
 pub mod lookups;
 pub mod pixel;

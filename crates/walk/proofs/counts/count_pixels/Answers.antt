@@ -18,16 +18,16 @@ pub count_place-requires : goal.count_place-requires
 count_place-requires c =
     let plan = c.args.plan.now in
     let i = c.loop-place.place-index in
-    laid_within plan i (subst (λ ys. i < length ys) c.places-places.ensures c.loop-place-test.true) c.columns-columns.result c.rows-rows.result
-    (nth c.places-places.result.now i) c.columns-columns.ensures c.rows-rows.ensures (ap (λ ys. nth ys i) c.places-places.ensures)
+    laid_within plan i (subst (λ ys. i < length ys) c.places-places.ensures c.loop-place-test.true) c.size-size.result.columns c.size-size.result.rows
+    (nth c.places-places.result.now i) c.size-size.ensures.columns c.size-size.ensures.rows (ap (λ ys. nth ys i) c.places-places.ensures)
     (length c.loop-place.counts) (omega (arith, c.total.ensures.value, c.if-counts-total.false, c.loop-place.auto.counts))
 
 pub loop-place-preserved : goal.loop-place-preserved
 loop-place-preserved c =
     let plan = c.args.plan.now in
     let i = c.loop-place.place-index in
-    one_place_more plan i (subst (λ ys. i < length ys) c.places-places.ensures c.loop-place-test.true) c.columns-columns.result c.rows-rows.result
-    (nth c.places-places.result.now i) c.columns-columns.ensures c.rows-rows.ensures (ap (λ ys. nth ys i) c.places-places.ensures)
+    one_place_more plan i (subst (λ ys. i < length ys) c.places-places.ensures c.loop-place-test.true) c.size-size.result.columns c.size-size.result.rows
+    (nth c.places-places.result.now i) c.size-size.ensures.columns c.size-size.ensures.rows (ap (λ ys. nth ys i) c.places-places.ensures)
     c.args.counts.now c.loop-place.counts c.count_place.new.counts c.loop-place.invariant c.count_place.ensures
 
 pub returns : goal.returns

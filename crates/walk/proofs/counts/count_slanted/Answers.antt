@@ -1,62 +1,41 @@
-use Rattle.std.proofs.Common.{◌+◌, ◌-◌, ◌*◌, ◌<◌, get_or, ap, ◌∙◌, inl, inr, arith, rules}
-use Rattle.std.proofs.lemmas.Nat.{mul-le}
-use Rattle.mojette.specs.Bounds.{most_side, most_step}
+use Rattle.std.proofs.Common.{◌≡◌, ℕ, ◌+◌, ◌-◌, ◌*◌, ◌<◌, ◌≤◌, get_or, set, ap, ◌∙◌, inl, inr, arith, rules}
+use Rattle.std.proofs.lemmas.List.Edits.{fill_by_more}
 use Rattle.walk.specs.Counts.{pixels_of_bin}
-use Rattle.walk.proofs.Counting.{Before, balanced, few_before, begun_few}
-use Rattle.walk.proofs.Tallies.{next_first}
-use Rattle.law.proofs.Writing.{written_none, written_more, get_or-written}
+use Rattle.walk.specs.Passing.{columns_at}
+use Rattle.walk.proofs.Counting.{turn}
 use Rattle.walk.proofs.counts.count_slanted.Goals as goal
 use Rattle.walk.proofs.counts.count_slanted.Goals.{Joined-b-place, then-b-place, else-b-place}
 
-pub loop-b-init : goal.loop-b-init
-loop-b-init c =
-    let P = c.args.columns in
-    let q = c.args.place.q in (
-      next_first P q 0,
-      next_first P q (c.args.rows * c.args.place.slope),
-      written_none c.args.place.start (pixels_of_bin P c.args.rows c.args.place) c.args.counts.now,
-    )
-
-pub pass-ended-requires : goal.pass-ended-requires
-pass-ended-requires c =
-    let line = c.requires.place.line in
-    let high = mul-le c.args.rows c.args.place.slope most_side most_step line.few_rows line.s_most in
-    let wide = mul-le c.args.columns c.args.place.q most_side most_step line.few_columns line.q_most in
-    record {
-      size = (c.requires.slanted.1.0, omega (arith, line.q_most));
-      next = c.loop-b.invariant.1;
-    }
-
--- the count that is read
-before_is : (c : Joined-b-place) → Before c.args.columns c.args.rows c.args.place c.requires.slanted.0 c.requires.place.line.some_rows c.requires.slanted.1.0 c.loop-b.b c.if-b-place.before
-before_is c =
-    elim c.if-b-place.branch [
+-- by the count that is read
+turn_at : (c : Joined-b-place) (begun : ℕ) → begun ≡ columns_at c.args.size.columns c.args.place.q 0 c.loop-b.b
+    → (pixels_of_bin c.args.size.columns c.args.size.rows c.args.place c.loop-b.b + columns_at c.args.size.columns c.args.place.q (c.args.size.rows * c.args.place.slope) c.loop-b.b
+    ≡ c.if-b-place.before + begun) × (c.if-b-place.before + begun ≤ c.args.size.rows + 1)
+turn_at c begun e =
+    turn c.args.size.columns c.args.size.rows c.args.place c.requires.place c.requires.line.some_rows c.requires.slanted.0 c.loop-b.b c.if-b-place.before begun e
+    (elim c.if-b-place.branch [
       | then-b-place w ↦ inl (w.if-b-place.true, w.before-is)
-      | else-b-place w ↦ inr (
-        w.if-b-place.false,
-        w.before-is ∙ ap (λ xs. get_or xs (c.args.place.start + (c.loop-b.b - c.args.place.slope)) 0) c.loop-b.invariant.2
-            ∙ get_or-written c.args.place.start c.loop-b.b (pixels_of_bin c.args.columns c.args.rows c.args.place) c.args.counts.now 0
-            (c.loop-b.b - c.args.place.slope) (omega (arith, c.requires.place.inside, c.loop-b-test.true)) (omega (arith, w.if-b-place.false, c.requires.slanted.1.1)),
-      )
-    ]
+      | else-b-place w ↦ inr (w.if-b-place.false, w.before-is ∙ c.loop-b.invariant.counts _ (omega (arith, w.if-b-place.false, c.requires.slanted.1)))
+    ])
 
-pub overflow_add-counts : goal.overflow_add-counts
-overflow_add-counts c =
-    let few = few_before c.args.columns c.args.rows c.args.place c.requires.slanted.0 c.requires.place.line.some_rows c.requires.slanted.1.0 c.loop-b.b c.if-b-place.before (before_is (goal.at.overflow_add-counts c).Joined-b-place) in
-    let one = begun_few c.args.columns c.args.rows c.args.place c.requires.slanted.0 c.requires.place.line.some_rows c.requires.slanted.1.0 c.loop-b.b c.if-b-place.before in
-    let m : c.if-b-place.before + c.pass-begun.result < 256 = omega (arith, c.pass-begun.ensures.number, c.requires.place.line.few_rows) in
+pub overflow_add-bins : goal.overflow_add-bins
+overflow_add-bins c =
+    let t = turn_at (goal.at.overflow_add-bins c).Joined-b-place c.pass.result (c.pass.ensures _ _ _ c.loop-b.invariant.begins).0 in
+    let m : c.if-b-place.before + c.pass.result < 256 = omega (arith, t.1, c.requires.line.few_rows) in
     search rules
 
-pub overflow_sub-counts : goal.overflow_sub-counts
-overflow_sub-counts c =
-    let e = balanced c.args.columns c.args.rows c.args.place c.requires.slanted.0 c.requires.place.line.some_rows c.requires.slanted.1.0 c.loop-b.b c.if-b-place.before (before_is (goal.at.overflow_sub-counts c).Joined-b-place) in
-    omega (arith, c.pass-begun.ensures.number, c.pass-ended.ensures.number)
+pub overflow_sub-bins : goal.overflow_sub-bins
+overflow_sub-bins c =
+    let t = turn_at (goal.at.overflow_sub-bins c).Joined-b-place c.pass.result (c.pass.ensures _ _ _ c.loop-b.invariant.begins).0 in
+    omega (arith, t.0, (c.pass-in-loop-b.ensures _ _ _ c.loop-b.invariant.ends).0)
 
 pub loop-b-preserved : goal.loop-b-preserved
 loop-b-preserved c =
-    let e = balanced c.args.columns c.args.rows c.args.place c.requires.slanted.0 c.requires.place.line.some_rows c.requires.slanted.1.0 c.loop-b.b c.if-b-place.before (before_is (goal.at.loop-b-preserved c).Joined-b-place) in (
-      c.pass-begun.ensures.next,
-      c.pass-ended.ensures.next,
-      written_more c.args.place.start c.loop-b.b (pixels_of_bin c.args.columns c.args.rows c.args.place) c.args.counts.now c.loop-b.counts
-          (c.if-b-place.before + c.pass-begun.result - c.pass-ended.result) c.loop-b.invariant.2 (omega (arith, c.pass-begun.ensures.number, c.pass-ended.ensures.number)),
-    )
+    let begun = c.pass.ensures _ _ _ c.loop-b.invariant.begins in
+    let ended = c.pass-in-loop-b.ensures _ _ _ c.loop-b.invariant.ends in
+    let t = turn_at (goal.at.loop-b-preserved c).Joined-b-place c.pass.result begun.0 in
+    let N = pixels_of_bin c.args.size.columns c.args.size.rows c.args.place in
+    let here : c.if-b-place.before + c.pass.result - c.pass-in-loop-b.result ≡ N c.loop-b.b = omega (arith, t.0, ended.0) in record {
+      begins = begun.1;
+      ends = ended.1;
+      counts = λ k h. ap (λ v. get_or (set c.loop-b.bins c.loop-b.b v) k 0) here ∙ fill_by_more N c.loop-b.bins c.loop-b.b 0 (omega arith) c.loop-b.invariant.counts k h;
+    }

@@ -1,42 +1,25 @@
-use Rattle.std.proofs.Common.{◌≡◌, ◌*◌, IfSome, sym, ap, subst, arith}
+use Rattle.std.proofs.Common.{sym, ap, ◌∙◌, arith}
 use Rattle.plan.specs.Laid.{place_at as nth}
-use Rattle.plan.specs.Shapes.{places_of}
-use Rattle.walk.specs.Finding.{OfTile}
-use Rattle.walk.specs.Lines.{OnTile}
 use Rattle.walk.proofs.Finding.{lone_in_whole, none_in_lost}
-use Rattle.walk.proofs.Laying.{on_tile}
+use Rattle.walk.proofs.Places.{line_of}
 use Rattle.walk.proofs.lookups.lone_pixel.Goals as goal
 
-pub returns-then-place-ne0 : goal.returns-then-place-ne0
-returns-then-place-ne0 c =
+pub returns-then-not-is_whole-clause-is : goal.returns-then-not-is_whole-clause-is
+returns-then-not-is_whole-clause-is c =
+    none_in_lost c.args.plan.now c.args.marks.now c.args.at c.in_ok-i.i c.in_ok-i.bin c.in_ok-i.ensures.stands
+    (omega (arith, c.pixels.ensures, c.if-marks-pixels.false)) (nth c.places.result.now c.in_ok-i.i) (ap (λ ys. nth ys c.in_ok-i.i) c.places.ensures)
+    (sym c.is_whole.ensures ∙ c.if-not-is_whole.true)
+
+pub invariant_of-lone : goal.invariant_of-lone
+invariant_of-lone c =
+    let stands = c.in_ok-i.ensures.stands in
     record {
-      is = none_in_lost c.args.plan.now c.args.marks.now c.args.at c.in-Some.i c.in-Some.bin c.in-Some.ensures.stands
-          (omega (arith, c.pixels.ensures, c.if-marks-pixels.false)) (nth c.places.result.now c.in-Some.i) (ap (λ ys. nth ys c.in-Some.i) c.places.ensures)
-          c.if-place-ne0.true;
-      pixel = tt;
+      on_tile = line_of c.args.plan.now c.in_ok-i.i stands.known c.size-size.result.columns c.size-size.result.rows (nth c.places.result.now c.in_ok-i.i)
+          c.size-size.ensures.columns c.size-size.ensures.rows (ap (λ ys. nth ys c.in_ok-i.i) c.places.ensures) c.in_ok-i.bin stands.inside;
     }
 
-pub lone_in-requires : goal.lone_in-requires
-lone_in-requires c =
-    let plan = c.args.plan.now in
-    let i = c.in-Some.i in
-    let t = c.in-Some.ensures.stands in
-    record {
-      line = subst (λ ys. OnTile c.columns.result c.rows.result (nth ys i).q (nth ys i).slope c.in-Some.bin) (sym c.places.ensures)
-          (subst (λ P. OnTile P c.rows.result (nth (places_of plan) i).q (nth (places_of plan) i).slope c.in-Some.bin) (sym c.columns.ensures)
-          (subst (λ Q. OnTile plan.size.columns Q (nth (places_of plan) i).q (nth (places_of plan) i).slope c.in-Some.bin) (sym c.rows.ensures)
-          (on_tile plan i t.known c.in-Some.bin t.inside)));
-      size =
-          let e : c.columns.result * c.rows.result ≡ plan.size.columns * plan.size.rows = λ j. c.columns.ensures j * c.rows.ensures j in
-          omega (arith, c.pixels.ensures, c.if-marks-pixels.false);
-    }
-
-pub returns : goal.returns
-returns c =
-    record {
-      is = lone_in_whole c.args.plan.now c.args.marks.now c.args.at c.in-Some.i c.in-Some.bin c.in-Some.ensures.stands
-          (omega (arith, c.pixels.ensures, c.if-marks-pixels.false)) (nth c.places.result.now c.in-Some.i) (ap (λ ys. nth ys c.in-Some.i) c.places.ensures)
-          c.columns.result c.rows.result c.lone_in.result c.columns.ensures c.rows.ensures c.if-place-ne0.false c.lone_in.ensures.is;
-      pixel = subst (λ P. IfSome c.lone_in.result (OfTile P c.args.plan.now.size.rows)) c.columns.ensures
-          (subst (λ Q. IfSome c.lone_in.result (OfTile c.columns.result Q)) c.rows.ensures c.lone_in.ensures.pixel);
-    }
+pub returns-clause-is : goal.returns-clause-is
+returns-clause-is c =
+    lone_in_whole c.args.plan.now c.args.marks.now c.args.at c.in_ok-i.i c.in_ok-i.bin c.in_ok-i.ensures.stands
+    (omega (arith, c.pixels.ensures, c.if-marks-pixels.false)) (nth c.places.result.now c.in_ok-i.i) (ap (λ ys. nth ys c.in_ok-i.i) c.places.ensures)
+    c.size-size.result.columns c.size-size.result.rows c.lone.result c.size-size.ensures.columns c.size-size.ensures.rows (sym c.is_whole.ensures ∙ c.if-not-is_whole.false) c.lone.ensures.is

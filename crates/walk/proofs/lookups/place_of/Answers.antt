@@ -15,8 +15,8 @@ overflow_add-place c =
     let m : (nth ys c.loop-i.i).start + (nth ys c.loop-i.i).bins < 65536 = omega (arith, t.inside, plan.few_bins) in
     search rules
 
-pub returns-then-at-place : goal.returns-then-at-place
-returns-then-at-place c =
+pub returns-then-at-place-clause-is : goal.returns-then-at-place-clause-is
+returns-then-at-place-clause-is c =
     let plan = c.args.plan.now in
     let ys = c.places-places.result.now in
     let i = c.loop-i.i in
@@ -28,13 +28,9 @@ returns-then-at-place c =
     let size = ap (λ z. z.bins) t.same in
     let here : at ≡ x.start + b = omega (arith, t.starts, c.loop-i.invariant) in
     let inside : b < x.bins = omega (arith, c.if-at-place.true) in
-    record {
-      is =
-          stands_there (shape plan) at i b (omega (arith, t.inside, plan.full, c.if-at-place.true))
-          (ap (place_at plan.size.columns plan.size.rows (records_of (places_of plan))) here ∙ place_is plan i t.known b inside)
-          (ap (bin_at plan.size.columns plan.size.rows (records_of (places_of plan))) here ∙ bin_is plan i t.known b inside);
-      stands = record { known = t.known; inside = inside; position = here };
-    }
+    stands_there (shape plan) at i b (omega (arith, t.inside, plan.full, c.if-at-place.true))
+    (ap (place_at plan.size.columns plan.size.rows (records_of (places_of plan))) here ∙ place_is plan i t.known b inside)
+    (ap (bin_at plan.size.columns plan.size.rows (records_of (places_of plan))) here ∙ bin_is plan i t.known b inside)
 
 pub loop-i-preserved : goal.loop-i-preserved
 loop-i-preserved c =
