@@ -13,8 +13,14 @@ use Rattle.format.specs.Readers.{Parsed, done, fault, Reader, then, accept, expe
 use Rattle.format.proofs.Reading.{line_reader}
 use Rattle.bracket.specs.declared.lexer.Lexer.{Lexer}
 use Rattle.bracket.specs.declared.line.Line.{Line}
-use Rattle.bracket.specs.Lexing.{left, parsed, parsed_as, Reads, ReadsAs}
-use Rattle.bracket.specs.Lines.{start_reader, place_from}
+use Rattle.bracket.specs.declared.line.Start.{Start}
+use Rattle.bracket.specs.declared.line.Start.TheVariants.{Dir, End}
+use Rattle.bracket.specs.Lexing.{left, parsed_as, ReadsAs}
+use Rattle.bracket.specs.Lines.{is_dir, start_reader, place_from}
+
+pub not_dir : (s : Start) → (s ≡ Dir → ⊥) → is_dir s ≡ false
+not_dir Dir h = absurd (h refl)
+not_dir End h = refl
 
 then_assoc : {A B C : Type 0} (x : Parsed A) (f : A → Reader B) (g : B → Reader C) → then (then x f) g ≡ then x (λ a s. then (f a s) g)
 then_assoc (done a s) f g = refl
@@ -25,11 +31,6 @@ then_same (done a s) = refl
 then_same (fault byte why) = refl
 
 -- what was read, in a text by its length
-reads_in :
-    {A : Type 0} (f : ℕ → Reader A) (l m : Lexer) (r : Result A TextFault) (t : List ℕ) → l.text.now ≡ t → Reads f l r m
-    → f (length t) (left l) ≡ parsed r (left m)
-reads_in f l m r t e h = ap (λ u. f (length u) (left l)) (sym e) ∙ h.gives
-
 reads_as_in :
     {A B : Type 0} (value : A → B) (f : ℕ → Reader B) (l m : Lexer) (r : Result A TextFault) (t : List ℕ) → l.text.now ≡ t
     → ReadsAs value f l r m → f (length t) (left l) ≡ parsed_as value r (left m)
@@ -102,25 +103,25 @@ module _ {S : Type 0} (K : Operations S) (C : Codes S) (P Q : ℕ) where
       at_start = so_far.gives ∙ ap (before (held count lines)) (started (length t) last (most_places - count) open' (left l) has_room)
 
       pub stops_at_start :
-          (value : ℕ → List (Place S)) (m : Lexer) (e : TextFault) → Reads (λ n. start_reader n last open') l (Err e) m
+          (value : ℕ → List (Place S)) (m : Lexer) (e : TextFault) → ReadsAs is_dir (λ n. start_reader n last open') l (Err e) m
           → LinesRead value (Err e) m
       stops_at_start value m e r = record {
         gives =
             at_start
-            ∙ ap (λ x. before (held count lines) (then x (line_rest (length t) last (most_places - count)))) (reads_in (λ n. start_reader n last open') l m (Err e) t so_far.same r);
+            ∙ ap (λ x. before (held count lines) (then x (line_rest (length t) last (most_places - count)))) (reads_as_in is_dir (λ n. start_reader n last open') l m (Err e) t so_far.same r);
         same = r.same ∙ so_far.same;
       }
 
-      module _ (k : Lexer) (more : Bool) (begun : Reads (λ n. start_reader n last open') l (Ok more) k) where
+      module _ (k : Lexer) (begins : Start) (begun : ReadsAs is_dir (λ n. start_reader n last open') l (Ok begins) k) where
         at_rest :
             places_reader C (length t) P Q None most_places (left start)
-            ≡ before (held count lines) (line_rest (length t) last (most_places - count) more (left k))
+            ≡ before (held count lines) (line_rest (length t) last (most_places - count) (is_dir begins) (left k))
         at_rest =
             at_start
-            ∙ ap (λ x. before (held count lines) (then x (line_rest (length t) last (most_places - count)))) (reads_in (λ n. start_reader n last open') l k (Ok more) t so_far.same begun)
+            ∙ ap (λ x. before (held count lines) (then x (line_rest (length t) last (most_places - count)))) (reads_as_in is_dir (λ n. start_reader n last open') l k (Ok begins) t so_far.same begun)
 
         -- the last line
-        module _ (over : more ≡ false) where
+        module _ (over : is_dir begins ≡ false) where
           at_end : places_reader C (length t) P Q None most_places (left start) ≡ before (held count lines) (end_reader (length t) (left k))
           at_end =
               at_rest
@@ -146,7 +147,7 @@ module _ {S : Type 0} (K : Operations S) (C : Codes S) (P Q : ℕ) where
           }
 
         -- one more place
-        module _ (goes_on : more ≡ true) (inside : count < most_places) where
+        module _ (goes_on : is_dir begins ≡ true) (inside : count < most_places) where
           abbrev after_line : Place S → Reader (List (Place S))
           after_line x s = then (places_reader C (length t) P Q (Some x.entry.direction) (most_places - (count + 1)) s) (λ xs. done (x ∷ xs))
 

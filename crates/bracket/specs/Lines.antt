@@ -1,5 +1,5 @@
 -- What the lines of a file stand for, in its text.
-use Rattle.std.specs.Prelude.{ℕ, Bool, cond, List, [], codes as text, Option, ◌==◌}
+use Rattle.std.specs.Prelude.{ℕ, Bool, true, false, cond, List, [], codes as text, Option, ◌==◌}
 use Rattle.samples.specs.declared.coded.Coded.{Ghosts as Codes}
 use Rattle.samples.specs.declared.kind.Kind.{Ghosts as Operations}
 use Rattle.mojette.specs.declared.direction.Direction.{Direction}
@@ -7,8 +7,22 @@ use Rattle.mojette.specs.Bins.{bins, whole}
 use Rattle.mojette.specs.Meaning.{Place}
 use Rattle.format.specs.Format.{line_word, is_first}
 use Rattle.format.specs.Readers.{Reader, ◌>>◌, expect, accept}
+use Rattle.bracket.specs.declared.line.Holding.{Holding}
+use Rattle.bracket.specs.declared.line.Holding.TheVariants.{Bins, Lost}
 use Rattle.bracket.specs.declared.line.Line.{Line}
+use Rattle.bracket.specs.declared.line.Start.{Start}
+use Rattle.bracket.specs.declared.line.Start.TheVariants.{Dir, End}
 use Rattle.bracket.specs.Found.{found_from}
+
+-- whether `bins` stands there, and not `lost`
+abbrev pub is_bins : Holding → Bool
+is_bins Bins = true
+is_bins Lost = false
+
+-- whether a line begins with `(dir`, and not with `(end`
+abbrev pub is_dir : Start → Bool
+is_dir Dir = true
+is_dir End = false
 
 -- how a line after the first begins: whether with `(dir`
 abbrev pub start_reader : ℕ → Option Direction → Bool → Reader Bool

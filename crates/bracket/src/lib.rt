@@ -9,6 +9,7 @@ mod line;
 mod number;
 mod reading;
 mod source;
+mod steps;
 mod tokens;
 mod words;
 

@@ -8,15 +8,12 @@ ghost use Rattle.format.specs.Format.{codes_reader, sums_reader, held_reader, di
 ghost use Rattle.format.specs.Tokens.{IsWord};
 ghost use Rattle.bracket.specs.Found.{found_from};
 ghost use Rattle.bracket.specs.Lexing.{Reads, ReadsAs};
-ghost use Rattle.bracket.specs.Lines.{held_from, place_from};
+ghost use Rattle.bracket.specs.Lines.{is_bins, held_from, place_from};
 
-use crate::lexer::{Lexer, Token};
-use crate::line::Line;
-use mojette::{Direction, MOST_PLACES, MOST_SIDE, Reason, Record, TextFault};
+use crate::lexer::{Lexer, Mark};
+use crate::line::{Holding, Line, Start};
+use mojette::{Direction, MOST_PLACES, Record, TextFault};
 use samples::Coded;
-
-// The most of a cause.
-const MOST_CAUSE: usize = 255;
 
 impl<'a> Lexer<'a> {
     // Passes `count` codes, each after a space.
@@ -24,37 +21,41 @@ impl<'a> Lexer<'a> {
         ensures { ReadsAs (λ _. found_from K.Kind K.Coded.own self.old.text.now self.old.at count) (λ n. codes_reader K.Coded.own n count) self.old result self.new }
     {
         for _i in 0..count {
-            self.space()?;
+            self.mark(Mark::Space)?;
             let _ = self.code::<K>()?;
         }
         Ok(())
     }
 
     // What follows `bins` or `lost`: the cause, and the byte at which the codes of so many bins begin.
-    fn sums<K: Coded>(&mut self, bins: usize, whole: bool) -> Result<(u8, usize), TextFault>
-        ensures { ReadsAs (held_from K.Kind K.Coded.own self.old.text.now bins) (λ n. sums_reader K.Coded.own n bins whole) self.old result self.new }
+    fn sums<K: Coded>(&mut self, bins: usize, holding: Holding) -> Result<(u8, usize), TextFault>
+        ensures { ReadsAs (held_from K.Kind K.Coded.own self.old.text.now bins) (λ n. sums_reader K.Coded.own n bins (is_bins holding)) self.old result self.new }
     {
-        if whole {
-            let begin = self.at;
-            self.skip_codes::<K>(bins)?;
-            return Ok((0, begin));
+        match holding {
+            Holding::Bins => {
+                let begin = self.at;
+                self.skip_codes::<K>(bins)?;
+                Ok((0, begin))
+            }
+            Holding::Lost => {
+                self.mark(Mark::Space)?;
+                let cause = self.cause()?;
+                Ok((cause.get(), 0))
+            }
         }
-        self.space()?;
-        let cause = self.number(1, MOST_CAUSE, Reason::Token)?;
-        Ok((cause as u8, 0))
     }
 
     // What a place holds, with the line end.
     fn held<K: Coded>(&mut self, bins: usize) -> Result<(u8, usize), TextFault>
         ensures { ReadsAs (held_from K.Kind K.Coded.own self.old.text.now bins) (λ n. held_reader K.Coded.own n bins) self.old result self.new }
     {
-        self.space()?;
-        self.open()?;
-        let whole = self.bins_or_lost()?;
-        let held = self.sums::<K>(bins, whole)?;
-        self.close()?;
-        self.close()?;
-        self.newline()?;
+        self.mark(Mark::Space)?;
+        self.mark(Mark::Open)?;
+        let holding = self.holding()?;
+        let held = self.sums::<K>(bins, holding)?;
+        self.mark(Mark::Close)?;
+        self.mark(Mark::Close)?;
+        self.mark(Mark::Newline)?;
         Ok(held)
     }
 
@@ -80,8 +81,8 @@ impl<'a> Lexer<'a> {
     fn finish<K: Coded>(&mut self) -> Result<(), TextFault>
         ensures { ReadsAs (λ _. []) (λ n. end_reader {A = Place K} n) self.old result self.new }
     {
-        self.close()?;
-        self.newline()?;
+        self.mark(Mark::Close)?;
+        self.mark(Mark::Newline)?;
         self.end()
     }
 
@@ -99,7 +100,7 @@ impl<'a> Lexer<'a> {
     {
         let mut last = None;
         let mut count = 0;
-        while self.more(last, count < MOST_PLACES)? {
+        while let Start::Dir = self.start(last, count < MOST_PLACES)? {
             let line = self.place::<K>(columns, rows, last)?;
             lines[count] = line;
             last = Some(line.entry.direction);
@@ -115,16 +116,16 @@ impl<'a> Lexer<'a> {
         ensures reads { Reads (head_reader name.now) self.old result self.new }
         ensures sizes { IfOk result (λ v. (side_ok v.0 ≡ true) × (side_ok v.1 ≡ true)) }
     {
-        self.open()?;
+        self.mark(Mark::Open)?;
         self.word(b"tile")?;
-        self.space()?;
+        self.mark(Mark::Space)?;
         self.word(name)?;
-        self.space()?;
-        let columns = self.number(1, MOST_SIDE, Reason::Size)?;
-        self.space()?;
-        let rows = self.number(1, MOST_SIDE, Reason::Size)?;
-        self.close()?;
-        self.newline()?;
+        self.mark(Mark::Space)?;
+        let columns = self.side()?;
+        self.mark(Mark::Space)?;
+        let rows = self.side()?;
+        self.mark(Mark::Close)?;
+        self.mark(Mark::Newline)?;
         Ok((columns, rows))
     }
 }
