@@ -9,29 +9,21 @@ ghost use Rattle.katz.specs.Sets.{Spans, Peels};
 use samples::Kind;
 
 // A set of pixels in which none is alone in any bin reaches over C + 1 columns and R + 1 rows.
-pub fn paired_sets_span() -> u8
+pub fn paired_sets_span()
     ensures { Spans }
-{
-    0
-}
+{}
 
 // Under Katz's criterion every nonempty set of pixels has one that is alone in its bin.
-pub fn sets_peel() -> u8
+pub fn sets_peel()
     ensures { Peels }
-{
-    0
-}
+{}
 
 // Katz's criterion fails exactly when the directions of the whole places have a ghost.
-pub fn katz_holds<K: Kind>() -> u8
+pub fn katz_holds<K: Kind>()
     ensures { Katz K.Kind }
-{
-    0
-}
+{}
 
 // Where the criterion fails, the spark spread direction by direction is a ghost.
-pub fn ghost_is_made<K: Kind>() -> u8
+pub fn ghost_is_made<K: Kind>()
     ensures { GhostIsMade K.Kind }
-{
-    0
-}
+{}

@@ -7,22 +7,16 @@ ghost use Rattle.law.specs.Worked.{Worked, WorkedFurther};
 use samples::Kind;
 
 // Whatever a lawful source means, and whatever calls a tile born of it has met, in any order and number.
-pub fn law_of_life<K: Kind>() -> u8
+pub fn law_of_life<K: Kind>()
     ensures { Law K.Kind }
-{
-    0
-}
+{}
 
 // A tile of 2 by 2 lives to its end, and one with too few places is refused.
-pub fn tiles_live() -> u8
+pub fn tiles_live()
     ensures { Worked }
-{
-    0
-}
+{}
 
 // A tile of 2 by 2 lives to its end under two workers, one of whom gives a grant back; and one whose sums contradict one another is refused.
-pub fn tiles_live_further() -> u8
+pub fn tiles_live_further()
     ensures { WorkedFurther }
-{
-    0
-}
+{}

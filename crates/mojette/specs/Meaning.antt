@@ -42,6 +42,10 @@ bins_of s = all_bins s.P s.Q s.records
 abbrev pub side_ok : ℕ → Bool
 side_ok n = nat_le 1 n && nat_le n most_side
 
+-- the refusal of the sizes, none where a tile may have them
+abbrev pub sides_verdict : ℕ → ℕ → Option Refusal
+sides_verdict P Q = cond (side_ok P && side_ok Q) None (Some (refusal 1 0 0 0))
+
 abbrev pub number_ok : ℕ → Bool
 number_ok n = nat_le 1 n && nat_le n most_places
 

@@ -1,15 +1,28 @@
 // Directions of projection. A file of its own, so that `specs/` can name the types.
+ghost use Rattle.std.specs.Prelude.{◌≡◌};
 
 // The direction (p, q): its lines step p columns to the right and q rows down.
-#[derive(Clone, Copy)]
+#[derive(Clone, Copy, Debug, PartialEq, Eq)]
 pub struct Direction {
     pub p: i32,
     pub q: i32,
 }
 
 // A place of a plan: a direction, and why its projection is lost; cause 0 for a whole one.
-#[derive(Clone, Copy)]
+#[derive(Clone, Copy, Debug, PartialEq, Eq)]
 pub struct Record {
     pub direction: Direction,
     pub cause: u8,
+}
+
+impl Record {
+    // The place of the direction (p, q).
+    pub fn new(p: i32, q: i32, cause: u8) -> Record
+        ensures { result ≡ record { direction = record { p = p; q = q }; cause = cause } }
+    {
+        Record {
+            direction: Direction { p, q },
+            cause,
+        }
+    }
 }

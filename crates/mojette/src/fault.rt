@@ -1,7 +1,7 @@
 // Why the bench refuses. A file of its own, so that `specs/` can name the types.
 
 // The caller's tables, by their numbers.
-#[derive(Clone, Copy)]
+#[derive(Clone, Copy, Debug, PartialEq, Eq)]
 pub enum Table {
     Picture = 1,
     Marks = 2,
@@ -11,7 +11,7 @@ pub enum Table {
 }
 
 // Why a token of a text is wrong.
-#[derive(Clone, Copy)]
+#[derive(Clone, Copy, Debug, PartialEq, Eq)]
 pub enum Reason {
     // It is not the token that belongs there, or not well formed.
     Token = 0,
@@ -26,21 +26,21 @@ pub enum Reason {
 }
 
 // The text's fault: the first byte of the wrong token, from 0, and the reason.
-#[derive(Clone, Copy)]
+#[derive(Clone, Copy, Debug, PartialEq, Eq)]
 pub struct TextFault {
     pub byte: usize,
     pub reason: Reason,
 }
 
 // The file's fault: the line of the wrong token, from 1, and the text's fault.
-#[derive(Clone, Copy)]
+#[derive(Clone, Copy, Debug, PartialEq, Eq)]
 pub struct FileFault {
     pub line: usize,
     pub text: TextFault,
 }
 
 // The bench's fault. docs/REFUSALS.md gives each case its number and what it tells.
-#[derive(Clone, Copy)]
+#[derive(Clone, Copy, Debug, PartialEq, Eq)]
 pub enum Fault {
     Size,
     PlaceCount,
@@ -76,7 +76,7 @@ pub enum Fault {
 }
 
 // A refusal by its number, with the three values that it tells: 0 where it tells nothing.
-#[derive(Clone, Copy)]
+#[derive(Clone, Copy, Debug, PartialEq, Eq)]
 pub struct Refusal {
     pub number: usize,
     pub first: usize,

@@ -6,7 +6,11 @@ pub mod fault;
 pub mod order;
 pub mod passing;
 pub mod refusal;
+pub mod sides;
+pub mod size;
 
 pub use direction::{Direction, Record};
 pub use fault::{Fault, FileFault, Reason, Refusal, Table, TextFault};
 pub use order::{MOST_PLACES, MOST_SIDE, MOST_STEP};
+pub use sides::is_side;
+pub use size::Size;

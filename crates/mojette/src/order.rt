@@ -2,6 +2,7 @@
 ghost use Rattle.std.specs.Prelude.{◌≡◌};
 ghost use Rattle.mojette.specs.Bounds.{most_side, most_places, most_step};
 ghost use Rattle.mojette.specs.Directions.{gcd as gcd_of, Euclid, level_right, lawful, before};
+ghost use Rattle.mojette.specs.Meaning.{follows};
 
 use crate::direction::Direction;
 
@@ -47,11 +48,19 @@ impl Direction {
         gcd(across, down) == 1 && self.is_level_right()
     }
 
-    // Whether this direction stands before another: p·q' > p'·q.
+    // Whether this direction stands before another: p·q' > p'·q. That is an order of the lawful directions alone, so that
+    // it is no `PartialOrd`: (1, 1) and (2, 2) would be equal there.
     pub fn is_before(self, other: Direction) -> bool
         ensures { result ≡ before self other }
     {
         i64::from(other.p) * i64::from(self.q) < i64::from(self.p) * i64::from(other.q)
+    }
+
+    // Whether this direction may stand after the last one, if there is one.
+    pub fn follows(self, last: Option<Direction>) -> bool
+        ensures { result ≡ follows last self }
+    {
+        last.is_none_or(|before| before.is_before(self))
     }
 }
 
@@ -95,6 +104,8 @@ mod tests {
         let left = Direction { p: -1, q: 1 };
         assert!(rt; level.is_before(upright) && upright.is_before(left));
         assert!(rt; !left.is_before(upright) && !upright.is_before(upright));
+        assert!(rt; level.follows(None) && left.follows(Some(upright)));
+        assert!(rt; !upright.follows(Some(left)));
     }
 
     #[test]

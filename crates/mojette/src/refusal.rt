@@ -1,20 +1,15 @@
 // What a fault tells.
-ghost use Rattle.std.specs.Prelude.{◌≡◌};
+ghost use Rattle.std.specs.Prelude.{◌≡◌, ◌++◌, codes, decimal, Some};
 ghost use Rattle.mojette.specs.Faults.{table_number, reason_number, refusal_of};
 
 use crate::fault::{Fault, Reason, Refusal, Table};
+use std::fmt;
 
 impl Table {
     pub fn number(self) -> usize
         ensures { result ≡ table_number self }
     {
-        match self {
-            Table::Picture => 1,
-            Table::Marks => 2,
-            Table::Sums => 3,
-            Table::Counts => 4,
-            Table::Queue => 5,
-        }
+        self as usize
     }
 }
 
@@ -22,13 +17,7 @@ impl Reason {
     pub fn number(self) -> usize
         ensures { result ≡ reason_number self }
     {
-        match self {
-            Reason::Token => 0,
-            Reason::Size => 1,
-            Reason::Count => 2,
-            Reason::Direction => 3,
-            Reason::Order => 4,
-        }
+        self as usize
     }
 }
 
@@ -43,12 +32,12 @@ fn told(number: usize, first: usize, second: usize, third: usize) -> Refusal
     }
 }
 
-impl Fault {
+impl From<Fault> for Refusal {
+    ghost from_gives = { λ fault refusal. refusal ≡ refusal_of fault };
+
     // The number of the refusal, and what it tells.
-    pub fn refusal(self) -> Refusal
-        ensures { result ≡ refusal_of self }
-    {
-        match self {
+    fn from(fault: Fault) -> Refusal {
+        match fault {
             Fault::Size => told(1, 0, 0, 0),
             Fault::PlaceCount => told(2, 0, 0, 0),
             Fault::Unlawful(place) => told(3, place, 0, 0),
@@ -72,5 +61,19 @@ impl Fault {
             Fault::ShortOutput(needed) => told(21, needed, 0, 0),
             Fault::Oversize => told(22, 0, 0, 0),
         }
+    }
+}
+
+impl fmt::Display for Refusal {
+    ghost output = { λ r. Some (codes "refused " ++ decimal r.number ++ codes " " ++ decimal r.first ++ codes " " ++ decimal r.second ++ codes " " ++ decimal r.third) };
+
+    fn fmt<W: fmt::Write>(&self, f: &mut fmt::Formatter<W>) -> fmt::Result {
+        let Refusal {
+            number,
+            first,
+            second,
+            third,
+        } = *self;
+        write!(f, "refused {number} {first} {second} {third}")
     }
 }

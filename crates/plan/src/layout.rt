@@ -88,6 +88,7 @@ impl Plan {
 #[cfg(test)]
 mod tests {
     use super::*;
+    use mojette::Refusal;
 
     fn whole(p: i32, q: i32) -> Record {
         Record {
@@ -101,7 +102,7 @@ mod tests {
         match Plan::of(columns, rows, records) {
             Ok(plan) => (0, plan.total()),
             Err(fault) => {
-                let told = fault.refusal();
+                let told = Refusal::from(fault);
                 (told.number, told.first)
             }
         }

@@ -99,6 +99,7 @@ pub fn project<K: Kind>(
 #[cfg(test)]
 mod tests {
     use super::*;
+    use mojette::Refusal;
     use samples::SumWord;
 
     // The refusal's number and first value; 0 and the bins where the call is served.
@@ -117,7 +118,7 @@ mod tests {
         match project(columns, rows, Direction { p, q }, picture, sums) {
             Ok(n) => (0, n),
             Err(fault) => {
-                let told = fault.refusal();
+                let told = Refusal::from(fault);
                 (told.number, told.first)
             }
         }

@@ -1,7 +1,7 @@
 // Projects a small picture, drops recorders, and rebuilds the picture from what is left.
 #![tactic(auto)]
 
-use mojette::{Direction, Fault, Record};
+use mojette::{Direction, Fault, Record, Refusal};
 use plan::Plan;
 use plan::project::project;
 use runs::rebuild::rebuild;
@@ -52,7 +52,7 @@ fn show_rows(rt: &HostRuntime, cells: &[SumWord]) -> anyhow::Result<()> {
 }
 
 fn show_refusal(rt: &HostRuntime, fault: Fault) -> anyhow::Result<()> {
-    let told = fault.refusal();
+    let told = Refusal::from(fault);
     let (n, a, b, c) = (told.number, told.first, told.second, told.third);
     println!(rt; "(refused {n} {a} {b} {c})")?;
     Ok(())

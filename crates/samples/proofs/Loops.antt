@@ -1,9 +1,9 @@
 -- One more digit of a code that is read, or written.
-use Rattle.std.proofs.Common.{◌≡◌, ℕ, zero, suc, ◌+◌, ◌-◌, ◌*◌, ◌/◌, ◌%◌, ◌^◌, ◌<◌, ◌≤◌, true, false, ◌&&◌, eqb, List, [], ◌∷◌, ◌++◌, length, get_or, drop, set, sym, ap, ◌∙◌, append_assoc, pow-suc, arith}
+use Rattle.std.proofs.Common.{◌≡◌, ℕ, zero, suc, ◌+◌, ◌-◌, ◌*◌, ◌/◌, ◌%◌, ◌^◌, ◌<◌, ◌≤◌, true, false, ◌&&◌, eqb, Bool, cond, refl, List, [], ◌∷◌, ◌++◌, length, get_or, drop, set, Some, None, sym, ap, ◌∙◌, append_assoc, pow-suc, arith}
 use Rattle.std.proofs.lemmas.List.{at_drop_more, at_drop_all, drop-set}
-use Rattle.std.proofs.lemmas.Bool.{and_left, and_right, and_from, lt-ltb, le-ltb, eq-eqb}
+use Rattle.std.proofs.lemmas.Bool.{and_left, and_right, and_from, eqb-true, eqb-false, lt-ltb, le-ltb, eq-eqb}
 use Rattle.std.proofs.lemmas.Bool.Decides.{nat_tests}
-use Rattle.samples.specs.Codes.{hex_byte, hex_value, hex_text, all_hex, hex_number, is_code}
+use Rattle.samples.specs.Codes.{hex_byte, hex_value, digit_of, hex_text, all_hex, hex_number, is_code}
 use Rattle.samples.proofs.Digits.{last_digit}
 
 pow16_up : (i k : ℕ) → 16 ^ i ≤ 16 ^ (i + k)
@@ -28,9 +28,28 @@ hex_fits i n d h k l =
     let q : 16 ^ (i + 1 + (11 - i)) ≡ 16 ^ 12 = ap (λ j. 16 ^ j) e in
     omega (arith, hex_bound i n d h k)
 
--- a byte's worth, where it is a digit
-pub hex_digit : (c d : ℕ) → d ≡ hex_value c → (d ≡ 16 → ⊥) → d < 16
-hex_digit c d e ne = let le : hex_value c ≤ 16 = grind (arith, nat_tests) in omega arith
+by_test : (t : Bool) (d v : ℕ) → Some d ≡ cond t None (Some v) → d ≡ v
+by_test true d v e = absurd (cc e)
+by_test false d v e = cc e
+
+is_digit : (t : Bool) (d v : ℕ) → Some d ≡ cond t None (Some v) → t ≡ false
+is_digit true d v e = absurd (cc e)
+is_digit false d v e = refl
+
+no_number : (t : Bool) (v : ℕ) → None ≡ cond t None (Some v) → t ≡ true
+no_number true v e = refl
+no_number false v e = absurd (cc e)
+
+-- a byte's worth, where it is a digit, and where it is none
+pub hex_digit : (c d : ℕ) → Some d ≡ digit_of c → (d ≡ hex_value c) × (d < 16)
+hex_digit c d e =
+    let le : hex_value c ≤ 16 = grind (arith, nat_tests) in
+    let ne = eqb-false (hex_value c) 16 in
+    let is : d ≡ hex_value c = by_test (eqb (hex_value c) 16) d (hex_value c) e in
+    (is, omega (arith, ne (is_digit (eqb (hex_value c) 16) d (hex_value c) e)))
+
+pub hex_none : (c : ℕ) → None ≡ digit_of c → hex_value c ≡ 16
+hex_none c e = eqb-true (hex_value c) 16 (no_number (eqb (hex_value c) 16) (hex_value c) e)
 
 module _ (w : List ℕ) (i n d : ℕ) (inside : i < length w) (is : d ≡ hex_value (get_or w i 0)) where
   pub number_more :
@@ -47,9 +66,11 @@ module _ (w : List ℕ) (i n d : ℕ) (inside : i < length w) (is : d ≡ hex_va
   all_more l inv =
       sym (at_drop_more all_hex w i 0 inside ∙ ap (λ b. b && all_hex (drop (i + 1) w)) (lt-ltb (hex_value (get_or w i 0)) 16 (omega arith))) ∙ inv
 
-  pub no_digit : d ≡ 16 → all_hex (drop i w) ≡ all_hex w → (k : ℕ) → is_code k w ≡ false
-  no_digit e inv k =
-      and_right (eqb (length w) k) _ (sym inv ∙ at_drop_more all_hex w i 0 inside ∙ and_left _ _ (le-ltb (hex_value (get_or w i 0)) 16 (omega arith)))
+pub no_digit :
+    (w : List ℕ) (i : ℕ) → i < length w → hex_value (get_or w i 0) ≡ 16 → all_hex (drop i w) ≡ all_hex w
+    → (k : ℕ) → is_code k w ≡ false
+no_digit w i inside e inv k =
+    and_right (eqb (length w) k) _ (sym inv ∙ at_drop_more all_hex w i 0 inside ∙ and_left _ _ (le-ltb (hex_value (get_or w i 0)) 16 (omega arith)))
 
 pub all_read :
     (w : List ℕ) (i n k : ℕ) → length w ≤ i → length w ≡ k

@@ -1,5 +1,5 @@
 -- Codes of samples: capital hexadecimal digits, the first with the most weight.
-use Rattle.std.specs.Prelude.{◌≡◌, ℕ, zero, suc, ◌+◌, ◌-◌, ◌*◌, ◌/◌, ◌%◌, ◌^◌, ◌<◌, ◌≤◌, Bool, true, cond, ◌&&◌, List, [], ◌∷◌, length, ◌==◌, nat_le, nat_lt}
+use Rattle.std.specs.Prelude.{◌≡◌, ℕ, zero, suc, ◌+◌, ◌-◌, ◌*◌, ◌/◌, ◌%◌, ◌^◌, ◌<◌, ◌≤◌, Bool, true, cond, ◌&&◌, List, [], ◌∷◌, length, Some, None, Option, ◌==◌, nat_le, nat_lt}
 
 -- the digit d of base sixteen as a byte: 0 to 9, A to F
 abbrev pub hex_byte : ℕ → ℕ
@@ -8,6 +8,10 @@ hex_byte d = cond (nat_lt d 10) (48 + d) (55 + d)
 -- what a byte stands for as such a digit; 16 if it is none
 abbrev pub hex_value : ℕ → ℕ
 hex_value c = cond (nat_le 48 c && nat_le c 57) (c - 48) (cond (nat_le 65 c && nat_le c 70) (c - 55) 16)
+
+-- the same, none where the byte is no digit
+abbrev pub digit_of : ℕ → Option ℕ
+digit_of c = cond (hex_value c == 16) None (Some (hex_value c))
 
 -- n in w digits
 abbrev pub hex_text : ℕ → ℕ → List ℕ

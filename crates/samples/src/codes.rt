@@ -1,6 +1,6 @@
 // The code of a sample, and back.
 ghost use Rattle.std.specs.Prelude.{◌≡◌, ◌<◌, codes as text};
-ghost use Rattle.samples.specs.Codes.{hex_byte, hex_value};
+ghost use Rattle.samples.specs.Codes.{hex_byte, digit_of};
 ghost use Rattle.samples.specs.Codings.{sum_number, sum_coding, xor_number, xor_coding, pair_number, pair_sample, pair_coding};
 ghost use Rattle.samples.specs.Reading.{code, read_code, Written, OneToOne};
 ghost use Rattle.samples.specs.Words.{sum_of, xor_of};
@@ -113,14 +113,14 @@ fn hex_byte(digit: u8) -> u8
     }
 }
 
-// What a byte stands for as a digit, and 16 where it is none.
-fn hex_value(b: u8) -> u8
-    ensures { result ≡ hex_value b }
+// What a byte stands for as a digit, if it is one.
+fn hex_value(b: u8) -> Option<u8>
+    ensures { result ≡ digit_of b }
 {
     match b {
-        b'0'..=b'9' => b - b'0',
-        b'A'..=b'F' => b - (b'A' - 10),
-        _ => 16,
+        b'0'..=b'9' => Some(b - b'0'),
+        b'A'..=b'F' => Some(b - (b'A' - 10)),
+        _ => None,
     }
 }
 
@@ -133,6 +133,7 @@ pub fn write_code<K: Coded>(sample: K, out: &mut [u8]) -> Option<usize>
         return None;
     }
     let mut rest = sample.to_number();
+    // By index: what cells written through a reversed iterator hold is not known.
     for i in (0..width).rev() {
         out[i] = hex_byte((rest % 16) as u8);
         rest /= 16;
@@ -150,10 +151,7 @@ pub fn read_code<K: Coded>(word: &[u8]) -> Option<K>
     }
     let mut n: u64 = 0;
     for b in word {
-        let digit = hex_value(*b);
-        if digit == 16 {
-            return None;
-        }
+        let digit = hex_value(*b)?;
         n = 16 * n + u64::from(digit);
     }
     Some(K::from_number(n))
@@ -195,10 +193,7 @@ mod tests {
     }
 
     fn number_read(word: &[u8]) -> Option<u16> {
-        match read_code::<SumWord>(word) {
-            Some(x) => Some(x.value),
-            None => None,
-        }
+        read_code::<SumWord>(word).map(|x| x.value)
     }
 
     #[test]

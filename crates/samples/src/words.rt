@@ -3,21 +3,21 @@
 ghost use Rattle.std.specs.Prelude.{◌^◌, ◌<◌};
 
 // A sum word: a whole number modulo 65,536.
-#[derive(Clone, Copy)]
+#[derive(Clone, Copy, Debug, PartialEq, Eq)]
 pub struct SumWord {
     pub value: u16,
     ghost fits: { value < 2 ^ 16 },
 }
 
 // An XOR word: 32 bits, joined by exclusive or.
-#[derive(Clone, Copy)]
+#[derive(Clone, Copy, Debug, PartialEq, Eq)]
 pub struct XorWord {
     pub value: u32,
     ghost fits: { value < 2 ^ 32 },
 }
 
 // Two samples side by side.
-#[derive(Clone, Copy)]
+#[derive(Clone, Copy, Debug, PartialEq, Eq)]
 pub struct Pair<A, B> {
     pub first: A,
     pub second: B,

@@ -6,13 +6,13 @@ use crate::rack::Rack;
 use crate::source::Source;
 use crate::strip::strip;
 use crate::types::Sizes;
-use mojette::{Direction, Fault, Record};
+use mojette::{Direction, Fault, Record, Refusal};
 use samples::SumWord;
 use std::test::Fail;
 
 // The refusal's number and first value.
 fn told(fault: Fault) -> (usize, usize) {
-    let refusal = fault.refusal();
+    let refusal = Refusal::from(fault);
     (refusal.number, refusal.first)
 }
 

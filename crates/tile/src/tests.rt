@@ -1,7 +1,7 @@
 // Tiles of 2 by 2 in sum words, from open to picture.
 use crate::opening::open;
 use crate::states::{Finished, Grant, Loading, Peeling, Refused};
-use mojette::{Direction, Record};
+use mojette::{Direction, Record, Refusal};
 use plan::Plan;
 use samples::SumWord;
 use source::Rack;
@@ -82,7 +82,7 @@ fn shown(
             Ok(((0, 0, 0), values))
         }
         Err(refused) => {
-            let told = refused.fault.refusal();
+            let told = Refusal::from(refused.fault);
             Ok(((told.number, told.first, told.second), [0; 4]))
         }
     }

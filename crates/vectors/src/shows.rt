@@ -1,5 +1,5 @@
 // The words of an answer.
-use mojette::Fault;
+use mojette::{Fault, Refusal};
 use samples::Coded;
 use std::fmt::Write;
 
@@ -19,7 +19,7 @@ pub fn show_cells(out: &mut String, cells: &[u16]) -> anyhow::Result<()> {
 }
 
 pub fn show_refusal(out: &mut String, fault: Fault) -> anyhow::Result<()> {
-    let told = fault.refusal();
+    let told = Refusal::from(fault);
     let (n, a, b, c) = (told.number, told.first, told.second, told.third);
     write!(out, "refused {n} {a} {b} {c}")?;
     Ok(())

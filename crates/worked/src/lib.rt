@@ -4,8 +4,6 @@
 ghost use Rattle.worked.specs.Examples.{Worked};
 
 // Projections of the tile 1 2 / 3 4, ghosts, and plans that suffice.
-pub fn worked_examples() -> u8
+pub fn worked_examples()
     ensures { Worked }
-{
-    0
-}
+{}

@@ -1,8 +1,8 @@
-use Rattle.std.proofs.Common.{◌≡◌, ◌≤◌, length, get_or, Some, sym, refl, ap, ◌∙◌, arith, lit<}
+use Rattle.std.proofs.Common.{◌≡◌, ◌<◌, ◌≤◌, length, get_or, Some, sym, refl, ap, ◌∙◌, arith, lit<}
 use Rattle.std.proofs.lemmas.Bool.{cond-true, cond-false, and_left, ne_eqb}
 use Rattle.samples.specs.Codes.{is_code}
 use Rattle.samples.proofs.Codings.{one_to_one}
-use Rattle.samples.proofs.Loops.{hex_digit, hex_bound, hex_fits, number_more, all_more, no_digit, all_read}
+use Rattle.samples.proofs.Loops.{hex_digit, hex_none, hex_bound, hex_fits, number_more, all_more, no_digit, all_read}
 use Rattle.samples.proofs.codes.read_code.Goals as goal
 
 pub returns-then-word-digits : goal.returns-then-word-digits
@@ -16,32 +16,33 @@ returns-then-word-digits g c =
 pub loop-b-init : goal.loop-b-init
 loop-b-init g c = (lit< tt, omega arith, refl)
 
-pub returns-then-digit-eq16 : goal.returns-then-digit-eq16
-returns-then-digit-eq16 g c = record {
-  value = sym (cond-false (is_code g.K.Coded.width c.args.word.now) _ _
-      (no_digit c.args.word.now c.loop-b.b-index c.loop-b.n c.hex_value-digit.result c.loop-b-test.true c.hex_value-digit.ensures c.if-digit-eq16.true c.loop-b.invariant.2 g.K.Coded.width));
+pub returns-in_err-digit : goal.returns-in_err-digit
+returns-in_err-digit g c = record {
+  value = c.from_residual.ensures ∙ sym (cond-false (is_code g.K.Coded.width c.args.word.now) _ _
+      (no_digit c.args.word.now c.loop-b.b-index c.loop-b-test.true (hex_none (get_or c.args.word.now c.loop-b.b-index 0) c.in_err-digit.ensures) c.loop-b.invariant.2 g.K.Coded.width));
   law = one_to_one g.K.Coded;
 }
 
 pub overflow_mul-n : goal.overflow_mul-n
 overflow_mul-n g c =
-    let d = hex_digit (get_or c.args.word.now c.loop-b.b-index 0) c.hex_value-digit.result c.hex_value-digit.ensures c.if-digit-eq16.false in
+    let d = hex_digit (get_or c.args.word.now c.loop-b.b-index 0) c.in_ok-digit.digit c.in_ok-digit.ensures in
     let w : length c.args.word.now ≤ 12 = omega (arith, c.digits.ensures, g.K.Coded.coding.few_digits) in
-    omega (arith, hex_fits c.loop-b.b-index c.loop-b.n c.hex_value-digit.result c.loop-b.invariant.0 d (omega arith))
+    omega (arith, hex_fits c.loop-b.b-index c.loop-b.n c.in_ok-digit.digit c.loop-b.invariant.0 d.1 (omega arith))
 
 pub overflow_add-n : goal.overflow_add-n
 overflow_add-n g c =
-    let d = hex_digit (get_or c.args.word.now c.loop-b.b-index 0) c.hex_value-digit.result c.hex_value-digit.ensures c.if-digit-eq16.false in
+    let d = hex_digit (get_or c.args.word.now c.loop-b.b-index 0) c.in_ok-digit.digit c.in_ok-digit.ensures in
     let w : length c.args.word.now ≤ 12 = omega (arith, c.digits.ensures, g.K.Coded.coding.few_digits) in
-    omega (arith, c.from.ensures, hex_fits c.loop-b.b-index c.loop-b.n c.hex_value-digit.result c.loop-b.invariant.0 d (omega arith))
+    omega (arith, c.from.ensures, hex_fits c.loop-b.b-index c.loop-b.n c.in_ok-digit.digit c.loop-b.invariant.0 d.1 (omega arith))
 
 pub loop-b-preserved : goal.loop-b-preserved
 loop-b-preserved g c =
-    let e = c.from.ensures ∙ c.hex_value-digit.ensures in
-    let d = hex_digit (get_or c.args.word.now c.loop-b.b-index 0) c.from.result e (λ z. c.if-digit-eq16.false (sym c.from.ensures ∙ z)) in (
-      hex_bound c.loop-b.b-index c.loop-b.n c.from.result c.loop-b.invariant.0 d,
+    let d = hex_digit (get_or c.args.word.now c.loop-b.b-index 0) c.in_ok-digit.digit c.in_ok-digit.ensures in
+    let e = c.from.ensures ∙ d.0 in
+    let below : c.from.result < 16 = omega (arith, c.from.ensures, d.1) in (
+      hex_bound c.loop-b.b-index c.loop-b.n c.from.result c.loop-b.invariant.0 below,
       number_more c.args.word.now c.loop-b.b-index c.loop-b.n c.from.result c.loop-b-test.true e c.loop-b.invariant.1,
-      all_more c.args.word.now c.loop-b.b-index c.loop-b.n c.from.result c.loop-b-test.true e d c.loop-b.invariant.2,
+      all_more c.args.word.now c.loop-b.b-index c.loop-b.n c.from.result c.loop-b-test.true e below c.loop-b.invariant.2,
     )
 
 pub returns : goal.returns
