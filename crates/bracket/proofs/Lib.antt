@@ -3,7 +3,6 @@ pub mod OfNumerals
 pub mod OfDirections
 pub mod OfFound
 pub mod OfSkips
-pub mod OfLines
 pub mod OfPlaces
 pub mod OfLineEnds
 pub mod OfFile

@@ -1,12 +1,12 @@
--- The words of a direction, read as numbers that are brought near to 0.
-use Rattle.std.proofs.Common.{◌≡◌, ℕ, ◌<◌, ◌≤◌, min, true, false, cond, leb, ◌⊎◌, ℤ, pos, negsuc, nat_abs, Some, None, Option, sym, refl, ap, ◌∙◌, inl, inr, ⊎_elim, arith}
+-- The q of a direction, read as a number that is brought near to 0.
+use Rattle.std.proofs.Common.{◌≡◌, ℕ, ◌<◌, min, true, false, cond, leb, ◌⊎◌, ℤ, pos, negsuc, nat_abs, Some, None, Option, sym, refl, ap, ◌∙◌, inl, inr, ⊎_elim, arith}
 use lib.Signed.{le_z}
-use Rattle.std.proofs.lemmas.Bool.{cond-true, cond-false, both_ways, and_left, and_right, le-leb, lt-leb, cases_lt}
+use Rattle.std.proofs.lemmas.Bool.{cond-true, cond-false, both_ways, and_left, and_right, lt-leb, cases_lt}
 use Rattle.mojette.specs.declared.direction.Direction.{Direction}
 use Rattle.mojette.specs.Bounds.{most_step}
 use Rattle.mojette.specs.Directions.{lawful}
 use Rattle.mojette.specs.Meaning.{follows}
-use Rattle.format.specs.Format.{near, direction_of, after_last}
+use Rattle.format.specs.Format.{direction_of, after_last}
 use Rattle.format.specs.Readers.{good, bad}
 use Rattle.bracket.specs.Capped.{capped}
 
@@ -28,23 +28,6 @@ brought (Some (negsuc n)) z e =
     (λ l. let s : min 999 n ≡ n = omega arith in inl (λ i. Some ((sym (y ∙ ap negsuc s)) i)))
     (λ l. inr (negsuc n, refl, omega arith, omega (arith, ap nat_abs y)))
     (cases_lt n 999)
-
--- p ---------------------------------------------------------------------------------------------------------------
-
-far_at : (y : ℤ) → most_step < nat_abs y → near (Some y) ≡ bad 3
-far_at y h = cond-false (leb (nat_abs y) most_step) _ _ (lt-leb (nat_abs y) most_step h)
-
-pub p_far : (o : Option ℤ) (z : ℤ) → Some z ≡ capped o → most_step < nat_abs z → near o ≡ bad 3
-p_far o z e h = ⊎_elim (λ s. ap near s ∙ far_at z h) (λ f. ap near f.1 ∙ far_at f.0 f.2) (brought o z e)
-
-pub p_near : (o : Option ℤ) (z : ℤ) → Some z ≡ capped o → nat_abs z ≤ most_step → near o ≡ good z
-p_near o z e h =
-    ⊎_elim
-    (λ s. ap near s ∙ cond-true (leb (nat_abs z) most_step) _ _ (le-leb (nat_abs z) most_step h))
-    (λ f. absurd (omega (arith, f.3)))
-    (brought o z e)
-
--- q ---------------------------------------------------------------------------------------------------------------
 
 unlawful_far : (p q : ℤ) → most_step < nat_abs q → lawful (direction_of p q) ≡ false
 unlawful_far p q h =

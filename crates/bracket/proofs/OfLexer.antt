@@ -1,14 +1,13 @@
--- The first token of a text that begins with a mark, and of one that does not.
-use Rattle.std.proofs.Common.{◌≡◌, ℕ, suc, ◌+◌, ◌-◌, ◌<◌, ◌≤◌, Bool, true, false, cond, not, ◌||◌, is_some, Some, None, ◌==◌, List, [], ◌∷◌, length, get_or, take, drop, sym, refl, ap, ◌∙◌, subst, arith}
-use Rattle.std.proofs.lemmas.List.{take_at, drop_all, drop-drop, at_drop_more, at_drop_all}
+-- The first token of a text that begins with no mark.
+use Rattle.std.proofs.Common.{◌≡◌, ℕ, ◌+◌, ◌<◌, Bool, true, false, cond, not, ◌||◌, is_some, Some, None, ◌==◌, List, [], ◌∷◌, length, get_or, take, drop, sym, refl, ap, ◌∙◌, subst, arith}
+use Rattle.std.proofs.lemmas.List.{take_at, drop-drop}
 use Rattle.std.specs.List.{take_while}
-use Rattle.std.proofs.lemmas.Bool.{cond-true, cond-false}
+use Rattle.std.proofs.lemmas.Bool.{cond-false}
 use Rattle.std.proofs.lemmas.List.Sums.{take_while-cons}
 use Rattle.format.specs.Tokens.{mark, run, token, after, Unmarked, IsWord}
 use Rattle.format.proofs.OfTokens.{run_split}
-use Rattle.bracket.specs.declared.lexer.Mark.{Mark}
 use Rattle.bracket.specs.declared.lexer.Mark.TheVariants.{Open, Close, Space, Newline}
-use Rattle.bracket.specs.Lexing.{mark_byte, mark_of, is_marked}
+use Rattle.bracket.specs.Lexing.{mark_of, is_marked}
 
 -- The marks ----------------------------------------------------------------------------------------------------------
 
@@ -24,12 +23,6 @@ is_mark b = go (b == 40) (b == 41) (b == 32) (b == 10)
 
 pub no_mark : (b : ℕ) → mark_of b ≡ None → mark b ≡ false
 no_mark b e = sym (is_mark b) ∙ ap is_some e
-
-byte_of : (b : ℕ) (m : Mark) → Some m ≡ mark_of b → b ≡ mark_byte m
-byte_of b Open e = grind arith
-byte_of b Close e = grind arith
-byte_of b Space e = grind arith
-byte_of b Newline e = grind arith
 
 -- The longest run -----------------------------------------------------------------------------------------------------
 
@@ -53,22 +46,6 @@ run_front : (bs : List ℕ) → take (length (run bs)) bs ≡ run bs
 run_front bs = ap (take (length (run bs))) (sym (run_split bs)) ∙ take_at (run bs) _ _ refl
 
 -- The first token of what is left of a text after `at` bytes ----------------------------------------------------------
-
-pub no_token : (at : ℕ) (text : List ℕ) → length text ≤ at → (token (drop at text) ≡ []) × (drop at text ≡ after (drop at text))
-no_token at text h = let e = drop_all at text h in (ap token e, e ∙ sym (ap after e))
-
-token_mark : (bs : List ℕ) → 0 < length bs → mark (get_or bs 0 0) ≡ true → token bs ≡ get_or bs 0 0 ∷ []
-token_mark [] l m = absurd (omega arith)
-token_mark (b ∷ bs) l m = cond-true (mark b) _ _ m
-
-pub next_mark :
-    (at : ℕ) (text bs : List ℕ) (m : Mark) → bs ≡ drop at text → 0 < length bs → Some m ≡ mark_of (get_or bs 0 0)
-    → (token (drop at text) ≡ mark_byte m ∷ []) × (drop (at + 1) text ≡ after (drop at text))
-next_mark at text bs m e l i =
-    let t = token_mark bs l (sym (is_mark (get_or bs 0 0)) ∙ ap is_some (sym i)) in (
-      ap token (sym e) ∙ t ∙ ap (λ b. b ∷ []) (byte_of (get_or bs 0 0) m i),
-      sym (drop-drop 1 at text) ∙ (λ j. drop (length (sym t j)) (sym e j)) ∙ ap after e,
-    )
 
 pub record FirstWord (at n : ℕ) (text bs : List ℕ) : Type 0 where
   pub front : take n bs ≡ token (drop at text)

@@ -86,9 +86,6 @@ abbrev pub parsed_as : {A B : Type 0} → (A → B) → Result A TextFault → L
 parsed_as value (Ok a) bs = done (value a) bs
 parsed_as value (Err f) bs = fault f.byte (reason_number f.reason)
 
-abbrev pub parsed : {A : Type 0} → Result A TextFault → List ℕ → Parsed A
-parsed r bs = parsed_as (λ a. a) r bs
-
 -- the lexer l becomes m as the reader says, and r keeps something by which the value that the reader gives is found in the text
 pub record ReadsAs {A B : Type 0} (value : A → B) (f : ℕ → Reader B) (l : Lexer) (r : Result A TextFault) (m : Lexer) : Type 0 where
   pub gives : f (length l.text.now) (left l) ≡ parsed_as value r (left m)

@@ -6,6 +6,7 @@ mod file;
 pub mod layout;
 mod lexer;
 mod line;
+mod lines;
 mod number;
 mod reading;
 mod source;

@@ -1,7 +1,6 @@
 // What the words of a file are worth: a value, or the reason why one is wrong.
-ghost use Rattle.std.specs.Prelude.{◌≡◌, true, map, IfOk};
+ghost use Rattle.std.specs.Prelude.{◌≡◌, true, IfOk};
 ghost use Rattle.mojette.specs.Directions.{lawful};
-ghost use Rattle.mojette.specs.Meaning.{follows};
 ghost use Rattle.format.specs.Format.{size_word, cause_word, p_word, q_word, code_word, bins_word, line_word};
 ghost use Rattle.format.specs.Readers.{exactly as exactly_one};
 ghost use Rattle.bracket.specs.Lexing.{worth_of, worth_as};
@@ -9,7 +8,7 @@ ghost use Rattle.bracket.specs.Lines.{is_bins, is_dir};
 
 use crate::line::{Holding, Start};
 use crate::number::numeral;
-use mojette::{Direction, MOST_SIDE, MOST_STEP, Reason};
+use mojette::{Direction, MOST_STEP, Reason, is_side};
 use samples::Coded;
 use samples::codes::read_code;
 use std::num::NonZeroU8;
@@ -31,7 +30,7 @@ pub(crate) fn side_of(word: &[u8]) -> Result<usize, Reason>
 {
     let n = numeral(word).ok_or(Reason::Token)?;
     match usize::try_from(n) {
-        Ok(side) if side >= 1 && side <= MOST_SIDE => Ok(side),
+        Ok(side) if is_side(side) => Ok(side),
         _ => Err(Reason::Size),
     }
 }
@@ -68,7 +67,7 @@ pub(crate) fn q_of(word: &[u8], p: i32, last: Option<Direction>) -> Result<Direc
     if !direction.is_lawful() {
         return Err(Reason::Direction);
     }
-    if !is_after(last, direction) {
+    if !direction.follows(last) {
         return Err(Reason::Order);
     }
     Ok(direction)
@@ -102,14 +101,4 @@ pub(crate) fn sample_of<K: Coded>(word: &[u8]) -> Result<K, Reason>
     ensures { worth_of result ≡ code_word K.Coded.own word.now }
 {
     read_code::<K>(word).ok_or(Reason::Token)
-}
-
-// Whether a direction stands after the last one, if there is one.
-fn is_after(last: Option<Direction>, direction: Direction) -> bool
-    ensures { result ≡ follows last direction }
-{
-    match last {
-        None => true,
-        Some(before) => before.is_before(direction),
-    }
 }

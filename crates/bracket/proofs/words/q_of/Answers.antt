@@ -20,16 +20,16 @@ returns-then-not-is_lawful-clause-worth c =
     let d = held c.args.p c.in_ok-q.q c.ranges.p f in
     sym (q_unlawful c.args.last c.args.p (numeral c.args.word.now) c.in_ok-q.q e (ap lawful d ∙ sym c.if-not-is_lawful.ensures))
 
-pub returns-then-not-is_after-clause-worth : goal.returns-then-not-is_after-clause-worth
-returns-then-not-is_after-clause-worth c =
+pub returns-then-not-follows-clause-worth : goal.returns-then-not-follows-clause-worth
+returns-then-not-follows-clause-worth c =
     let f : SFits w32 c.in_ok-q.q = search rules in
     let e : Some c.in_ok-q.q ≡ capped (numeral c.args.word.now) = search rules in
     let d = held c.args.p c.in_ok-q.q c.ranges.p f in
-    sym (q_before c.args.last c.args.p (numeral c.args.word.now) c.in_ok-q.q e (ap lawful d ∙ sym c.if-not-is_lawful.ensures) (ap (follows c.args.last) d ∙ sym c.if-not-is_after.ensures))
+    sym (q_before c.args.last c.args.p (numeral c.args.word.now) c.in_ok-q.q e (ap lawful d ∙ sym c.if-not-is_lawful.ensures) (ap (follows c.args.last) d ∙ sym c.if-not-follows.ensures))
 
 pub returns-clause-worth : goal.returns-clause-worth
 returns-clause-worth c =
     let f : SFits w32 c.in_ok-q.q = search rules in
     let e : Some c.in_ok-q.q ≡ capped (numeral c.args.word.now) = search rules in
     let d = held c.args.p c.in_ok-q.q c.ranges.p f in
-    sym (q_after c.args.last c.args.p (numeral c.args.word.now) c.in_ok-q.q e (ap lawful d ∙ sym c.if-not-is_lawful.ensures) (ap (follows c.args.last) d ∙ sym c.if-not-is_after.ensures) ∙ ap {B = Worth Direction} good d)
+    sym (q_after c.args.last c.args.p (numeral c.args.word.now) c.in_ok-q.q e (ap lawful d ∙ sym c.if-not-is_lawful.ensures) (ap (follows c.args.last) d ∙ sym c.if-not-follows.ensures) ∙ ap {B = Worth Direction} good d)

@@ -1,4 +1,4 @@
-use Rattle.std.proofs.Common.{◌≡◌, refl, ◌<◌, length, get_or, take, drop, sym, ap, ◌∙◌, ◌-◌, arith, rules}
+use Rattle.std.proofs.Common.{◌≡◌, refl, ◌<◌, length, get_or, take, drop, sym, ap, ◌∙◌, ◌-◌, arith}
 use Rattle.std.proofs.lemmas.List.{take_rest}
 use Rattle.bracket.specs.Lexing.{mark_of}
 use Rattle.bracket.proofs.OfLexer.{run_is, next_word, no_mark}
