@@ -16,7 +16,7 @@ use Rattle.bracket.specs.Lexing.{left, parsed_as, ReadsAs}
 use Rattle.bracket.specs.Lines.{held_lines, place_from}
 use Rattle.bracket.specs.Means.{meaning_from, file_read}
 
-module _ {S : Type 0} (K : Operations S) (C : Codes S) (l : Lexer) (name : List ℕ) (is : name ≡ C.name) where
+module _ {S : Type 0} (K : Operations S) (C : Codes S) (l : Lexer) where
   -- what the call that reads a whole file answers
   abbrev FileRead : (Size × Lines → Meaning S) → Result (Size × Lines) TextFault → Lexer → Type 0
   FileRead value r m = ReadsAs value (λ n. file_reader C n) l r m
@@ -25,12 +25,9 @@ module _ {S : Type 0} (K : Operations S) (C : Codes S) (l : Lexer) (name : List 
   abbrev after_head : ℕ → ℕ × ℕ → Reader (Meaning S)
   after_head n v s = then (places_reader C n v.0 v.1 None most_places s) (λ xs. done (record { P = v.0; Q = v.1; places = xs }))
 
-  named : head_reader C.name (length l.text.now) (left l) ≡ head_reader name (length l.text.now) (left l)
-  named = ap (λ w. head_reader w (length l.text.now) (left l)) (sym is)
-
   -- what the call that reads the first line answers
   abbrev pub HeadRead : Result Size TextFault → Lexer → Type 0
-  HeadRead r m = ReadsAs (λ z. (z.columns, z.rows)) (head_reader name) l r m
+  HeadRead r m = ReadsAs (λ z. (z.columns, z.rows)) (head_reader C.name) l r m
 
   module _ (k : Lexer) (z : Size) (head : HeadRead (Ok z) k) where
     abbrev P : ℕ
@@ -45,7 +42,7 @@ module _ {S : Type 0} (K : Operations S) (C : Codes S) (l : Lexer) (name : List 
 
     opened : file_reader C (length l.text.now) (left l) ≡ after_head (length k.text.now) (P, Q) (left k)
     opened =
-        ap (λ x. then x (after_head (length l.text.now))) (named ∙ head.gives)
+        ap (λ x. then x (after_head (length l.text.now))) head.gives
         ∙ ap (λ t. after_head (length t) (P, Q) (left k)) (sym head.same)
 
     pub stops_at_lines :

@@ -30,7 +30,7 @@ impl<'a> Lexer<'a> {
         requires { IsWord K.Coded.name }
         ensures { ReadsAs (λ v. meaning_from K.Kind K.Coded.own self.old.text.now v.0 (held_lines v.1)) (λ n. file_reader K.Coded.own n) self.old result self.new }
     {
-        let size = self.head(K::kind_name())?;
+        let size = self.head::<K>()?;
         let lines = self.places::<K>(size)?;
         Ok((size, lines))
     }

@@ -90,15 +90,15 @@ impl<'a> Lexer<'a> {
         Ok(lines)
     }
 
-    // The first line of a file, for a kind of sample with that name.
-    pub(crate) fn head(&mut self, name: &[u8]) -> Result<Size, TextFault>
-        requires { IsWord name.now }
-        ensures { ReadsAs (λ size. (size.columns, size.rows)) (head_reader name.now) self.old result self.new }
+    // The first line of a file.
+    pub(crate) fn head<K: Coded>(&mut self) -> Result<Size, TextFault>
+        requires { IsWord K.Coded.name }
+        ensures { ReadsAs (λ size. (size.columns, size.rows)) (head_reader K.Coded.name) self.old result self.new }
     {
         self.mark(Mark::Open)?;
         self.word(b"tile")?;
         self.mark(Mark::Space)?;
-        self.word(name)?;
+        self.word(K::kind_name())?;
         self.mark(Mark::Space)?;
         let columns = self.side()?;
         self.mark(Mark::Space)?;

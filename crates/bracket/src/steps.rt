@@ -1,6 +1,5 @@
 // Reading a file word by word.
 ghost use Rattle.std.specs.Prelude.{◌≡◌, true, IfOk};
-ghost use Rattle.mojette.specs.Directions.{lawful};
 ghost use Rattle.mojette.specs.Meaning.{side_ok};
 ghost use Rattle.format.specs.Format.{size_word, cause_word, p_word, q_word, code_word, bins_word, line_word, direction_reader};
 ghost use Rattle.format.specs.Readers.{accept, expect};
@@ -48,16 +47,14 @@ impl<'a> Lexer<'a> {
 
     // The q of a direction with p, which is to be lawful and to stand after the last one.
     fn q(&mut self, p: i32, last: Option<Direction>) -> Result<Direction, TextFault>
-        ensures reads { Reads (λ n. accept n (q_word last p)) self.old result self.new }
-        ensures lawful { IfOk result (λ d. lawful d ≡ true) }
+        ensures { Reads (λ n. accept n (q_word last p)) self.old result self.new }
     {
         self.accept(|word| q_of(word, p, last))
     }
 
     // A direction, lawful and after the last one.
     pub(crate) fn direction(&mut self, last: Option<Direction>) -> Result<Direction, TextFault>
-        ensures reads { Reads (λ n. direction_reader n last) self.old result self.new }
-        ensures lawful { IfOk result (λ d. lawful d ≡ true) }
+        ensures { Reads (λ n. direction_reader n last) self.old result self.new }
     {
         self.mark(Mark::Space)?;
         let p = self.p()?;

@@ -1,6 +1,5 @@
 // What the words of a file are worth: a value, or the reason why one is wrong.
-ghost use Rattle.std.specs.Prelude.{◌≡◌, true, IfOk};
-ghost use Rattle.mojette.specs.Directions.{lawful};
+ghost use Rattle.std.specs.Prelude.{◌≡◌};
 ghost use Rattle.format.specs.Format.{size_word, cause_word, p_word, q_word, code_word, bins_word, line_word};
 ghost use Rattle.format.specs.Readers.{exactly as exactly_one};
 ghost use Rattle.bracket.specs.Lexing.{worth_of, worth_as};
@@ -59,8 +58,7 @@ pub(crate) fn p_of(word: &[u8]) -> Result<i32, Reason>
 
 // The direction that q makes with p, which is to be lawful and to stand after the last one.
 pub(crate) fn q_of(word: &[u8], p: i32, last: Option<Direction>) -> Result<Direction, Reason>
-    ensures worth { worth_of result ≡ q_word last p word.now }
-    ensures lawful { IfOk result (λ d. lawful d ≡ true) }
+    ensures { worth_of result ≡ q_word last p word.now }
 {
     let q = numeral(word).ok_or(Reason::Token)?;
     let direction = Direction { p, q };
