@@ -1,5 +1,5 @@
 // Reading a whole file: the layers above the text.
-ghost use Rattle.std.specs.Prelude.{◌≡◌, ◌+◌, take, count_by, ◌==◌};
+ghost use Rattle.std.specs.Prelude.{◌≡◌, ◌+◌, take};
 ghost use Rattle.format.specs.Format.{file_reader, line_ends, read_file};
 ghost use Rattle.format.specs.Tokens.{IsWord};
 ghost use Rattle.bracket.specs.Lexing.{ReadsAs};
@@ -15,13 +15,8 @@ use samples::Coded;
 fn line_of(text: &[u8], byte: usize) -> usize
     ensures { result ≡ 1 + line_ends (take byte text.now) }
 {
-    1 + newlines(&text[..byte.min(text.len())])
-}
-
-fn newlines(text: &[u8]) -> usize
-    ensures { result ≡ count_by (λ b. b == 10) text.now }
-{
-    text.iter().filter(|b| **b == b'\n').count()
+    let before = &text[..byte.min(text.len())];
+    1 + before.iter().filter(|b| **b == b'\n').count()
 }
 
 impl<'a> Lexer<'a> {
