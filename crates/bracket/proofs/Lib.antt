@@ -1,10 +1,8 @@
 pub mod OfLexer
-pub mod OfSteps
 pub mod OfNumerals
 pub mod OfDirections
 pub mod OfFound
 pub mod OfSkips
-pub mod OfLines
 pub mod OfPlaces
 pub mod OfLineEnds
 pub mod OfFile

@@ -1,26 +1,38 @@
--- The first token of a text that begins with a mark, and of one that does not.
-use Rattle.std.proofs.Common.{◌≡◌, ℕ, suc, ◌+◌, ◌-◌, ◌<◌, ◌≤◌, Bool, true, false, cond, List, [], ◌∷◌, length, get_or, take, drop, sym, refl, ap, ◌∙◌, subst, arith}
-use Rattle.std.proofs.lemmas.List.{take_at, drop_all, drop-drop, at_drop_more, at_drop_all}
-use Rattle.std.proofs.lemmas.Bool.{cond-true, cond-false}
+-- The first token of a text that begins with no mark.
+use Rattle.std.proofs.Common.{◌≡◌, ℕ, ◌+◌, ◌<◌, Bool, true, false, cond, not, ◌||◌, is_some, Some, None, ◌==◌, List, [], ◌∷◌, length, get_or, take, drop, sym, refl, ap, ◌∙◌, subst, arith}
+use Rattle.std.proofs.lemmas.List.{take_at, drop-drop}
+use Rattle.std.specs.List.{take_while}
+use Rattle.std.proofs.lemmas.Bool.{cond-false}
+use Rattle.std.proofs.lemmas.List.Sums.{take_while-cons}
 use Rattle.format.specs.Tokens.{mark, run, token, after, Unmarked, IsWord}
 use Rattle.format.proofs.OfTokens.{run_split}
-use Rattle.bracket.specs.declared.lexer.Token.{Token}
-use Rattle.bracket.specs.declared.lexer.Token.TheVariants.{Open, Close, Space, Newline, End, Word}
-use Rattle.bracket.specs.Lexing.{IsMark, IsToken}
+use Rattle.bracket.specs.declared.lexer.Mark.TheVariants.{Open, Close, Space, Newline}
+use Rattle.bracket.specs.Lexing.{mark_of, is_marked}
 
--- The longest run, at a place where a search for its end has come -----------------------------------------------------
+-- The marks ----------------------------------------------------------------------------------------------------------
 
-pub run_here : (bs : List ℕ) (i : ℕ) → i < length bs → mark (get_or bs i 0) ≡ true → length (run (drop i bs)) ≡ 0
-run_here bs i h m =
-    at_drop_more (λ s. length (run s)) bs i 0 h ∙ ap length (cond-true (mark (get_or bs i 0)) [] (get_or bs i 0 ∷ run (drop (i + 1) bs)) m)
+is_mark : (b : ℕ) → is_marked b ≡ mark b
+is_mark b = go (b == 40) (b == 41) (b == 32) (b == 10)
+  where
+    go : (w x y z : Bool) → is_some (cond w (Some Open) (cond x (Some Close) (cond y (Some Space) (cond z (Some Newline) None)))) ≡ (w || (x || (y || z)))
+    go true x y z = refl
+    go false true y z = refl
+    go false false true z = refl
+    go false false false true = refl
+    go false false false false = refl
 
-pub run_more :
-    (bs : List ℕ) (i : ℕ) → i < length bs → mark (get_or bs i 0) ≡ false → length (run (drop i bs)) ≡ suc (length (run (drop (i + 1) bs)))
-run_more bs i h m =
-    at_drop_more (λ s. length (run s)) bs i 0 h ∙ ap length (cond-false (mark (get_or bs i 0)) [] (get_or bs i 0 ∷ run (drop (i + 1) bs)) m)
+pub no_mark : (b : ℕ) → mark_of b ≡ None → mark b ≡ false
+no_mark b e = sym (is_mark b) ∙ ap is_some e
 
-pub run_all : (bs : List ℕ) (i : ℕ) → length bs ≤ i → length (run (drop i bs)) ≡ 0
-run_all bs i h = at_drop_all (λ s. length (run s)) bs i h
+-- The longest run -----------------------------------------------------------------------------------------------------
+
+pub run_is : (bs : List ℕ) → take_while (λ b. not (is_marked b)) bs ≡ run bs
+run_is [] = refl
+run_is (b ∷ bs) = take_while-cons (λ b. not (is_marked b)) b bs ∙ ap (λ m. cond (not m) (b ∷ take_while (λ b. not (is_marked b)) bs) []) (is_mark b) ∙ go (mark b) (run_is bs)
+  where
+    go : (m : Bool) {xs ys : List ℕ} → xs ≡ ys → cond (not m) (b ∷ xs) [] ≡ cond m [] (b ∷ ys)
+    go true e = refl
+    go false e = ap (λ xs. b ∷ xs) e
 
 run_unmarked : (bs : List ℕ) → Unmarked (run bs)
 run_unmarked [] = tt
@@ -35,32 +47,8 @@ run_front bs = ap (take (length (run bs))) (sym (run_split bs)) ∙ take_at (run
 
 -- The first token of what is left of a text after `at` bytes ----------------------------------------------------------
 
-pub no_token : (at : ℕ) (text : List ℕ) → length text ≤ at → (token (drop at text) ≡ []) × (drop at text ≡ after (drop at text))
-no_token at text h = let e = drop_all at text h in (ap token e, e ∙ sym (ap after e))
-
-token_mark : (bs : List ℕ) → 0 < length bs → mark (get_or bs 0 0) ≡ true → token bs ≡ get_or bs 0 0 ∷ []
-token_mark [] l m = absurd (omega arith)
-token_mark (b ∷ bs) l m = cond-true (mark b) _ _ m
-
-pub next_mark :
-    (byte at : ℕ) (text bs : List ℕ) (t : Token) → bs ≡ drop at text → 0 < length bs → mark (get_or bs 0 0) ≡ true
-    → IsMark t (get_or bs 0 0) → IsToken byte (drop at text) t × (drop (at + 1) text ≡ after (drop at text))
-next_mark byte at text bs t e l m i =
-    let s = token_mark bs l m in (
-      subst (λ x. IsToken byte x t) e (go t i s),
-      sym (drop-drop 1 at text) ∙ (λ j. drop (length (sym s j)) (sym e j)) ∙ ap after e,
-    )
-  where
-    go : (t : Token) → IsMark t (get_or bs 0 0) → token bs ≡ get_or bs 0 0 ∷ [] → IsToken byte bs t
-    go Open i e = e ∙ ap (λ b. b ∷ []) i
-    go Close i e = e ∙ ap (λ b. b ∷ []) i
-    go Space i e = e ∙ ap (λ b. b ∷ []) i
-    go Newline i e = e ∙ ap (λ b. b ∷ []) i
-    go End i e = absurd i
-    go (Word w at) i e = absurd i
-
 pub record FirstWord (at n : ℕ) (text bs : List ℕ) : Type 0 where
-  pub front : take (n - 0) bs ≡ token (drop at text)
+  pub front : take n bs ≡ token (drop at text)
   pub word : IsWord (token (drop at text))
   pub rest : drop (at + n) text ≡ after (drop at text)
 
@@ -75,9 +63,8 @@ pub next_word :
     → FirstWord at n text bs
 next_word at n text bs e l m s =
     let f = first_word bs l m in
-    let k : n - 0 ≡ length (run bs) = omega arith in
     record {
-      front = ap (λ j. take j bs) k ∙ run_front bs ∙ sym f.0 ∙ ap token e;
+      front = ap (λ j. take j bs) s ∙ run_front bs ∙ sym f.0 ∙ ap token e;
       word = subst (λ x. IsWord (token x)) e f.1;
       rest = sym (drop-drop n at text) ∙ (λ j. drop ((s ∙ ap length (sym f.0)) j) (sym e j)) ∙ ap after e;
     }

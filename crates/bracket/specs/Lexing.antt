@@ -1,12 +1,17 @@
 -- What the lexer gives, and how a call's result is compared with what a reader gives.
-use Rattle.std.specs.Prelude.{◌≡◌, ℕ, ◌-◌, List, [], ◌∷◌, length, drop, Ok, Err, Result}
+use denote.Ref.{Bor}
+use Rattle.std.specs.Prelude.{◌≡◌, ℕ, ◌-◌, Bool, true, cond, is_some, ◌⊎◌, List, [], ◌∷◌, length, drop, Some, None, Ok, Err, Option, Result, ◌==◌}
+use Rattle.mojette.specs.declared.fault.Reason.{Reason}
+use Rattle.mojette.specs.declared.fault.Reason.TheVariants as reasons
 use Rattle.mojette.specs.declared.fault.TextFault.{TextFault}
 use Rattle.mojette.specs.Faults.{reason_number}
-use Rattle.format.specs.Readers.{Parsed, done, fault, Reader}
-use Rattle.format.specs.Tokens.{token, IsWord}
+use Rattle.format.specs.Readers.{Worth, good, bad, Parsed, done, fault, Reader}
+use Rattle.format.specs.Tokens.{mark, token, after, IsWord}
 use Rattle.bracket.specs.declared.lexer.Lexer.{Lexer}
+use Rattle.bracket.specs.declared.lexer.Mark.{Mark}
+use Rattle.bracket.specs.declared.lexer.Mark.TheVariants.{Open, Close, Space, Newline}
 use Rattle.bracket.specs.declared.lexer.Token.{Token}
-use Rattle.bracket.specs.declared.lexer.Token.TheVariants.{Open, Close, Space, Newline, End, Word}
+use Rattle.bracket.specs.declared.lexer.Token.TheVariants as tokens
 
 -- the bytes that are left
 abbrev pub left : Lexer → List ℕ
@@ -16,39 +21,76 @@ left l = drop l.at l.text.now
 abbrev pub place : Lexer → ℕ
 place l = length l.text.now - length (left l)
 
--- t is the token of a mark b
-abbrev pub IsMark : Token → ℕ → Type 0
-IsMark Open b = b ≡ 40
-IsMark Close b = b ≡ 41
-IsMark Space b = b ≡ 32
-IsMark Newline b = b ≡ 10
-IsMark End b = ⊥
-IsMark (Word w at) b = ⊥
+-- the byte of a mark
+abbrev pub mark_byte : Mark → ℕ
+mark_byte Open = 40
+mark_byte Close = 41
+mark_byte Space = 32
+mark_byte Newline = 10
 
--- t is the first token of bs, which begin at a byte
-abbrev pub IsToken : ℕ → List ℕ → Token → Type 0
-IsToken byte bs Open = token bs ≡ 40 ∷ []
-IsToken byte bs Close = token bs ≡ 41 ∷ []
-IsToken byte bs Space = token bs ≡ 32 ∷ []
-IsToken byte bs Newline = token bs ≡ 10 ∷ []
-IsToken byte bs End = token bs ≡ []
-IsToken byte bs (Word w at) = (w.now ≡ token bs) × (at ≡ byte) × IsWord (token bs)
+-- the mark that a byte is
+abbrev pub mark_of : ℕ → Option Mark
+mark_of b =
+    cond (b == 40) (Some Open)
+    (cond (b == 41) (Some Close)
+    (cond (b == 32) (Some Space)
+    (cond (b == 10) (Some Newline) None)))
 
--- a result with what is then left of the text, as a reader gives them
-abbrev pub parsed : {A : Type 0} → Result A TextFault → List ℕ → Parsed A
-parsed (Ok a) bs = done a bs
-parsed (Err f) bs = fault f.byte (reason_number f.reason)
+abbrev pub is_marked : ℕ → Bool
+is_marked b = is_some (mark_of b)
 
--- the lexer l becomes m as the reader says, and r is what the reader gives
-pub record Reads {A : Type 0} (f : ℕ → Reader A) (l : Lexer) (r : Result A TextFault) (m : Lexer) : Type 0 where
-  pub gives : f (length l.text.now) (left l) ≡ parsed r (left m)
+-- t is the first token of bs
+abbrev pub IsToken : List ℕ → Token → Type 0
+IsToken bs (tokens.Mark m) = token bs ≡ mark_byte m ∷ []
+IsToken bs tokens.End = token bs ≡ []
+IsToken bs (tokens.Word w) = (w.now ≡ token bs) × IsWord (token bs)
+
+-- what a word is worth, as a call that reads it answers, where it keeps something by which the value is found
+abbrev pub worth_as : {A B : Type 0} → (A → B) → Result A Reason → Worth B
+worth_as value (Ok a) = good (value a)
+worth_as value (Err e) = bad (reason_number e)
+
+abbrev pub worth_of : {A : Type 0} → Result A Reason → Worth A
+worth_of r = worth_as (λ a. a) r
+
+-- that answer, with the byte at which the word begins
+abbrev pub at_byte : {A : Type 0} → ℕ → Result A Reason → Result A TextFault
+at_byte byte (Ok a) = Ok a
+at_byte byte (Err e) = Err (record { byte = byte; reason = e })
+
+-- a token that is no word: a mark, or the end of input
+abbrev pub NoWord : List ℕ → Type 0
+NoWord t = (t ≡ []) ⊎ ((b : ℕ) × (mark b ≡ true) × (t ≡ b ∷ []))
+
+-- what is answered at the first token of bs, which begins at a byte: a word with that byte, or that the token is wrong
+abbrev pub IsWordAt : ℕ → List ℕ → Result (Bor (List ℕ) × ℕ) TextFault → Type 0
+IsWordAt byte bs (Ok v) = (v.0.now ≡ token bs) × (v.1 ≡ byte) × IsWord (token bs)
+IsWordAt byte bs (Err f) = NoWord (token bs) × (f ≡ record { byte = byte; reason = reasons.Token })
+
+-- the lexer l becomes m by one token, which is to be a word
+pub record TakesWord (l : Lexer) (r : Result (Bor (List ℕ) × ℕ) TextFault) (m : Lexer) : Type 0 where
+  pub is : IsWordAt (place l) (left l) r
+  pub rest : left m ≡ after (left l)
   pub same : m.text.now ≡ l.text.now
 
+-- by a word, of which `reads` says what the answer r may be, or by another token, which is wrong
+pub record Takes {A : Type 0} (reads : List ℕ → Result A Reason → Type 0) (l : Lexer) (r : Result A TextFault) (m : Lexer) : Type 0 where
+  pub answers :
+      ((a : Result A Reason) × reads (token (left l)) a × (r ≡ at_byte (place l) a))
+      ⊎ (NoWord (token (left l)) × (r ≡ at_byte (place l) (Err reasons.Token)))
+  pub rest : left m ≡ after (left l)
+  pub same : m.text.now ≡ l.text.now
+
+-- a result with what is then left of the text, as a reader gives them
 abbrev pub parsed_as : {A B : Type 0} → (A → B) → Result A TextFault → List ℕ → Parsed B
 parsed_as value (Ok a) bs = done (value a) bs
 parsed_as value (Err f) bs = fault f.byte (reason_number f.reason)
 
--- as Reads, for a call that keeps something by which the value that the reader gives is found in the text
+-- the lexer l becomes m as the reader says, and r keeps something by which the value that the reader gives is found in the text
 pub record ReadsAs {A B : Type 0} (value : A → B) (f : ℕ → Reader B) (l : Lexer) (r : Result A TextFault) (m : Lexer) : Type 0 where
   pub gives : f (length l.text.now) (left l) ≡ parsed_as value r (left m)
   pub same : m.text.now ≡ l.text.now
+
+-- and r is what the reader gives
+abbrev pub Reads : {A : Type 0} → (ℕ → Reader A) → Lexer → Result A TextFault → Lexer → Type 0
+Reads f l r m = ReadsAs (λ a. a) f l r m

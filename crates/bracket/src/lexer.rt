@@ -1,15 +1,21 @@
 // Tokens of a text. A file of its own, so that `specs/` can name the types.
 ghost use Rattle.std.specs.Prelude.{◌≤◌, length};
 
-// A token. A word is a part of the text, with the place of its first byte.
-#[derive(Clone, Copy)]
-pub(crate) enum Token<'a> {
+// A byte that is a token by itself.
+#[derive(Clone, Copy, PartialEq, Eq)]
+pub(crate) enum Mark {
     Open,
     Close,
     Space,
     Newline,
+}
+
+// A token. A word is a part of the text.
+#[derive(Clone, Copy)]
+pub(crate) enum Token<'a> {
+    Mark(Mark),
     End,
-    Word(&'a [u8], usize),
+    Word(&'a [u8]),
 }
 
 // A text that is read up to a byte.

@@ -6,9 +6,11 @@ mod file;
 pub mod layout;
 mod lexer;
 mod line;
+mod lines;
 mod number;
 mod reading;
 mod source;
+mod steps;
 mod tokens;
 mod words;
 

@@ -4,21 +4,18 @@ ghost use Rattle.format.specs.Numbers.{read_on, plain, numeral as numeral_of};
 ghost use Rattle.bracket.specs.Capped.{capped};
 
 // The number that digits write with no needless zero, at most 1000.
-fn magnitude(digits: &[u8]) -> Option<u32>
+fn magnitude(digits: &[u8]) -> Option<u16>
     ensures { result ≡ (if plain digits.now then Some (min 1000 (read_on 0 digits.now)) else None) }
 {
-    if digits.len() == 0 {
+    if let [] | [b'0', _, ..] = digits {
         return None;
     }
-    if digits.len() > 1 && digits[0] == b'0' {
-        return None;
-    }
-    let mut n: u32 = 0;
+    let mut n = 0;
     for d in digits {
         if !d.is_ascii_digit() {
             return None;
         }
-        n = (10 * n + u32::from(*d - b'0')).min(1000);
+        n = (10 * n + u16::from(*d - b'0')).min(1000);
     }
     Some(n)
 }
@@ -27,11 +24,11 @@ fn magnitude(digits: &[u8]) -> Option<u32>
 pub(crate) fn numeral(word: &[u8]) -> Option<i32>
     ensures { result ≡ capped (numeral_of word.now) }
 {
-    if word.len() > 0 && word[0] == b'-' {
-        let n = magnitude(&word[1..])?;
-        if n == 0 { None } else { Some(-(n as i32)) }
-    } else {
-        let n = magnitude(word)?;
-        Some(n as i32)
+    match word {
+        [b'-', digits @ ..] => {
+            let n = magnitude(digits)?;
+            if n == 0 { None } else { Some(-i32::from(n)) }
+        }
+        _ => magnitude(word).map(i32::from),
     }
 }

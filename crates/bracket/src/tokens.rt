@@ -1,54 +1,39 @@
 // Taking tokens off a text, each expected one or a fault.
-ghost use Rattle.std.specs.Prelude.{◌≡◌, ◌≤◌, true, [], ◌∷◌, length, codes};
-ghost use Rattle.std.specs.Str.{bytes_eq};
+ghost use Rattle.std.specs.Prelude.{◌≡◌, ◌≤◌, [], ◌∷◌, length, not, take_while};
+ghost use Rattle.std.specs.Fn.{FnOnceReturnsAt};
 ghost use Rattle.mojette.specs.declared.fault.Reason.TheVariants as reasons;
 ghost use Rattle.format.specs.Readers.{expect};
-ghost use Rattle.format.specs.Tokens.{mark, run, after, IsWord};
-ghost use Rattle.bracket.specs.Lexing.{left, place, IsMark, IsToken, Reads};
+ghost use Rattle.format.specs.Tokens.{after};
+ghost use Rattle.bracket.specs.Lexing.{left, place, mark_byte, mark_of, is_marked, IsToken, Reads, Takes, TakesWord};
 
-use crate::lexer::{Lexer, Token};
+use crate::lexer::{Lexer, Mark, Token};
 use mojette::{Reason, TextFault};
 
-fn is_mark(b: u8) -> bool
-    ensures { result ≡ mark b }
-{
-    b == b'(' || b == b')' || b == b' ' || b == b'\n'
-}
-
-fn mark_token<'a>(b: u8) -> Token<'a>
-    requires { mark b ≡ true }
-    ensures { IsMark result b }
-{
-    match b {
-        b'(' => Token::Open,
-        b')' => Token::Close,
-        b' ' => Token::Space,
-        _ => Token::Newline,
+impl Mark {
+    // The mark that a byte is.
+    fn of(b: u8) -> Option<Mark>
+        ensures { result ≡ mark_of b }
+    {
+        match b {
+            b'(' => Some(Mark::Open),
+            b')' => Some(Mark::Close),
+            b' ' => Some(Mark::Space),
+            b'\n' => Some(Mark::Newline),
+            _ => None,
+        }
     }
 }
 
 // How many bytes the text has before the first mark.
 fn run_len(text: &[u8]) -> usize
     ensures within { result ≤ length text.now }
-    ensures value { result ≡ length (run text.now) }
+    ensures value { result ≡ length (take_while (λ b. not (is_marked b)) text.now) }
 {
-    for (i, b) in text.iter().enumerate() {
-        if is_mark(*b) {
-            return i;
-        }
-    }
-    text.len()
-}
-
-// Whether a word is this name.
-pub(crate) fn is(word: &[u8], name: &[u8]) -> bool
-    ensures { result ≡ bytes_eq word.now name.now }
-{
-    word == name
+    text.iter().take_while(|b| Mark::of(**b).is_none()).count()
 }
 
 // The token at a byte is not the one that belongs there.
-pub(crate) fn wrong(byte: usize) -> TextFault
+fn wrong(byte: usize) -> TextFault
     ensures { result ≡ record { byte = byte; reason = reasons.Token } }
 {
     TextFault {
@@ -65,73 +50,47 @@ impl<'a> Lexer<'a> {
     }
 
     // The place of the next token.
-    pub(crate) fn byte(&self) -> usize
+    fn byte(&self) -> usize
         ensures { result ≡ place self.now }
     {
         self.at
     }
 
-    pub(crate) fn next(&mut self) -> Token<'a>
-        ensures is { IsToken (place self.old) (left self.old) result }
+    fn next(&mut self) -> Token<'a>
+        ensures is { IsToken (left self.old) result }
         ensures rest { left self.new ≡ after (left self.old) }
         ensures same { self.new.text.now ≡ self.old.text.now }
     {
         let text = self.text;
-        let byte = self.at;
-        let rest = &text[byte..];
-        if rest.len() == 0 {
+        let rest = &text[self.at..];
+        let Some(first) = rest.first() else {
             return Token::End;
-        }
-        let first = rest[0];
-        if is_mark(first) {
-            self.at = byte + 1;
-            return mark_token(first);
+        };
+        if let Some(mark) = Mark::of(*first) {
+            self.at += 1;
+            return Token::Mark(mark);
         }
         let size = run_len(rest);
-        self.at = byte + size;
-        Token::Word(&rest[0..size], byte)
+        self.at += size;
+        Token::Word(&rest[..size])
     }
 
-    pub(crate) fn open(&mut self) -> Result<(), TextFault>
-        ensures { Reads (λ n. expect n (codes "(")) self.old result self.new }
+    // The mark `want`.
+    pub(crate) fn mark(&mut self, want: Mark) -> Result<(), TextFault>
+        ensures { Reads (λ n. expect n (mark_byte want ∷ [])) self.old result self.new }
     {
         let byte = self.byte();
-        let Token::Open = self.next() else {
+        let Token::Mark(found) = self.next() else {
             return Err(wrong(byte));
         };
-        Ok(())
+        if found == want {
+            Ok(())
+        } else {
+            Err(wrong(byte))
+        }
     }
 
-    pub(crate) fn close(&mut self) -> Result<(), TextFault>
-        ensures { Reads (λ n. expect n (codes ")")) self.old result self.new }
-    {
-        let byte = self.byte();
-        let Token::Close = self.next() else {
-            return Err(wrong(byte));
-        };
-        Ok(())
-    }
-
-    pub(crate) fn space(&mut self) -> Result<(), TextFault>
-        ensures { Reads (λ n. expect n (codes " ")) self.old result self.new }
-    {
-        let byte = self.byte();
-        let Token::Space = self.next() else {
-            return Err(wrong(byte));
-        };
-        Ok(())
-    }
-
-    pub(crate) fn newline(&mut self) -> Result<(), TextFault>
-        ensures { Reads (λ n. expect n (10 ∷ [])) self.old result self.new }
-    {
-        let byte = self.byte();
-        let Token::Newline = self.next() else {
-            return Err(wrong(byte));
-        };
-        Ok(())
-    }
-
+    // The end of the text.
     pub(crate) fn end(&mut self) -> Result<(), TextFault>
         ensures { Reads (λ n. expect n ([])) self.old result self.new }
     {
@@ -142,19 +101,26 @@ impl<'a> Lexer<'a> {
         Ok(())
     }
 
-    // The word `want`.
-    pub(crate) fn word(&mut self, want: &[u8]) -> Result<(), TextFault>
-        requires { IsWord want.now }
-        ensures { Reads (λ n. expect n want.now) self.old result self.new }
+    // The next word, with the place of its first byte.
+    pub(crate) fn take_word(&mut self) -> Result<(&'a [u8], usize), TextFault>
+        ensures { TakesWord self.old result self.new }
     {
         let byte = self.byte();
-        let Token::Word(found, _) = self.next() else {
+        let Token::Word(word) = self.next() else {
             return Err(wrong(byte));
         };
-        if is(found, want) {
-            Ok(())
-        } else {
-            Err(wrong(byte))
-        }
+        Ok((word, byte))
+    }
+
+    // A word as `read` reads it, which says why it is wrong.
+    pub(crate) fn accept<T, F: FnOnce(&[u8]) -> Result<T, Reason>>(
+        &mut self,
+        read: F,
+    ) -> Result<T, TextFault>
+        requires { F.IsAlwaysCallable read }
+        ensures { Takes (FnOnceReturnsAt F.FnOnce read) self.old result self.new }
+    {
+        let (word, byte) = self.take_word()?;
+        read(word).map_err(|reason| TextFault { byte, reason })
     }
 }
