@@ -77,7 +77,7 @@ module _ {S : Type 0} (shape : Shape) (m : Meaning S) (n : ℕ) where
 
 -- what the code that compares place i finds
 pub same_there : {S : Type 0} (plan : Plan) (m : Meaning S) (i : ℕ) (ys : List Place) → ys ≡ places_of plan → i < length (places_of plan) →
-    m.P ≡ plan.columns → m.Q ≡ plan.rows → length m.places ≡ length ys → (other : Record) → other ≡ (place_at m i).entry →
+    m.P ≡ plan.size.columns → m.Q ≡ plan.size.rows → length m.places ≡ length ys → (other : Record) → other ≡ (place_at m i).entry →
     (r : Bool) → r ≡ same_record (record_of (nth ys i)) other → r ≡ fits (shape plan) m i
 same_there plan m i ys e l P Q N other same r is =
     is ∙ ap₂ same_record (ap (λ zs. record_of (nth zs i)) e ∙ sym (record_at (places_of plan) i l)) same
@@ -86,15 +86,15 @@ same_there plan m i ys e l P Q N other same r is =
 -- what the code that writes place i of a source that fits needs of it
 pub record FitsAt {S : Type 0} (plan : Plan) (m : Meaning S) (i : ℕ) (x : Place) : Type 0 where
   pub known : i < length m.places
-  pub size : x.bins ≡ bins plan.columns plan.rows (place_at m i).entry.direction
+  pub size : x.bins ≡ bins plan.size.columns plan.size.rows (place_at m i).entry.direction
   pub size_there : x.bins ≡ bins_at m i
 
 pub fits_at : {S : Type 0} (plan : Plan) (m : Meaning S) (i : ℕ) (ys : List Place) → Turn plan ys i → true ≡ fits (shape plan) m i → FitsAt plan m i (nth ys i)
 fits_at plan m i ys t e =
     let f = fitting (shape plan) m i (sym e) in
-    let here : (nth ys i).bins ≡ bins plan.columns plan.rows (place_at m i).entry.direction =
+    let here : (nth ys i).bins ≡ bins plan.size.columns plan.size.rows (place_at m i).entry.direction =
     ap (λ x. x.bins) t.same ∙ bins_are plan i t.known
-    ∙ ap (bins plan.columns plan.rows) (ap (λ x. x.direction) (sym (record_at (places_of plan) i t.known)) ∙ f.direction) in
+    ∙ ap (bins plan.size.columns plan.size.rows) (ap (λ x. x.direction) (sym (record_at (places_of plan) i t.known)) ∙ f.direction) in
     record {
       known = omega (arith, t.known, f.number, length-map (places_of plan) record_of);
       size = here;

@@ -16,8 +16,8 @@ returns-in_default g c =
     record { cell = none.0; world = none.1 }
 
 -- the cell that is found is one of the tile's
-cell_inside : (plan : Plan) (x : Pixel) → OfTile plan.columns plan.rows x → x.cell < pixels_of (shape plan)
-cell_inside plan x on = let below = cell_below plan.columns plan.rows x.column x.row on.column on.row in omega (arith, on.cell)
+cell_inside : (plan : Plan) (x : Pixel) → OfTile plan.size.columns plan.size.rows x → x.cell < pixels_of (shape plan)
+cell_inside plan x on = let below = cell_below plan.size.columns plan.size.rows x.column x.row on.column on.row in omega (arith, on.cell)
 
 pub bounds-picture-pixel : goal.bounds-picture-pixel
 bounds-picture-pixel g c = let inside = cell_inside c.args.plan.now c.in-Some.pixel c.in-Some.ensures.pixel in omega (arith, c.requires.pixels.0)
