@@ -64,11 +64,12 @@ fn show_refusal(rt: &HostRuntime, fault: Fault) -> anyhow::Result<()> {
 // The sums of every direction, one after another, each printed too.
 fn record_all(rt: &HostRuntime, cells: &[SumWord]) -> anyhow::Result<Vec<SumWord>> {
     let mut run = Vec::new(rt.alloc());
-    for Direction { p, q } in DIRECTIONS {
+    for direction in DIRECTIONS {
         let mut sums = [ZERO; BINS];
-        match project(COLUMNS, ROWS, Direction { p, q }, cells, &mut sums) {
+        match project(COLUMNS, ROWS, direction, cells, &mut sums) {
             Ok(bins) => {
                 let sums = &sums[..bins.min(BINS)];
+                let Direction { p, q } = direction;
                 let name = format!(in rt.alloc(); "({p}, {q}):")?;
                 show(rt, &name, sums)?;
                 run.extend_from_slice(sums)?;
@@ -105,10 +106,11 @@ fn rebuild_from(rt: &HostRuntime, records: &[Record], run: &[SumWord]) -> anyhow
 
 // Rebuilds the picture where places are lost for these causes, and whole for cause 0.
 fn rebuild_without(rt: &HostRuntime, causes: [u8; PLACES], run: &[SumWord]) -> anyhow::Result<()> {
-    let mut records = Vec::new(rt.alloc());
-    for (direction, cause) in DIRECTIONS.into_iter().zip(causes) {
-        records.push(Record { direction, cause })?;
-    }
+    let records: Vec<Record> = DIRECTIONS
+        .into_iter()
+        .zip(causes)
+        .map(|(direction, cause)| Record { direction, cause })
+        .collect(rt.alloc())?;
     rebuild_from(rt, &records, run)
 }
 

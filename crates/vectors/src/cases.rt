@@ -97,7 +97,7 @@ fn bin_case<K: Coded>(alloc: Global, words: &mut Words, out: &mut String) -> Res
     Ok(())
 }
 
-// A case of a set whose samples are of the kind that its first number names.
+// A case of a set at a kind of sample. The set `strip` has a question first: 0 for a strip, 1 for the sizes, 2 for a place, 3 for a bin.
 fn case_of<K: Coded>(
     alloc: Global,
     set: &str,
@@ -116,6 +116,7 @@ fn case_of<K: Coded>(
     }
 }
 
+// The answer to a line: a set, 0 for sum words, 1 for XOR words or 2 for pairs, and a case.
 pub fn answer(alloc: Global, line: &str) -> anyhow::Result<String> {
     let mut words = Words::of(line);
     let mut out = String::new(alloc);

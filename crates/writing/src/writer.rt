@@ -38,9 +38,7 @@ impl<'a> Writer<'a> {
         requires { has_room self.old (code K.Coded.own sample) }
         ensures { Writes (code K.Coded.own sample) self.old self.new }
     {
-        if let Some(width) = write_code(sample, &mut self.table[self.filled..]) {
-            self.filled += width;
-        }
+        self.filled += write_code(sample, &mut self.table[self.filled..]).unwrap();
     }
 
     // The codes of samples, each after a space.
@@ -54,7 +52,7 @@ impl<'a> Writer<'a> {
         }
     }
 
-    // Numbers, each after a space.
+    // Numbers, each after a space. It is no trait's method with `put_codes`: an impl for every coded kind would overlap one for `usize`.
     pub(crate) fn put_numbers(&mut self, numbers: &[usize])
         requires { has_room self.old (spaced decimal numbers.now) }
         ensures { Writes (spaced decimal numbers.now) self.old self.new }

@@ -1,5 +1,4 @@
-use Rattle.std.proofs.Common.{[], ◌∷◌, length, take, ap, ◌∙◌, length-append, codes as text, arith}
-use Rattle.std.proofs.lemmas.List.{take_all}
+use Rattle.std.proofs.Common.{[], ◌∷◌, length, take, ap, length-append, codes as text, arith}
 use Rattle.format.specs.Listing.{lost_text}
 use Rattle.writing.specs.Lines.{line_text}
 use Rattle.writing.proofs.OfLost.{lost_skip, lost_more}
@@ -19,8 +18,3 @@ loop-i-preserved c =
           let e = ap length (lost_skip es i c.loop-i-test.true w.if-record-ne0.false) in
           rw w.len-is (omega (arith, c.loop-i.invariant.0), omega (arith, c.loop-i.invariant.1))
     ]
-
-pub returns : goal.returns
-returns c =
-    let e = ap (λ l. length (lost_text 0 l [])) (take_all c.loop-i.i c.args.records.now c.loop-i-test.false) in
-    record { value = c.loop-i.invariant.0 ∙ e; small = omega (arith, c.loop-i.invariant.1, c.requires) }

@@ -1,5 +1,4 @@
 use Rattle.std.proofs.Common.{[], ◌∷◌, length, take, ap, length-append, codes as text, arith}
-use Rattle.std.proofs.lemmas.List.{take_all}
 use Rattle.format.specs.Listing.{lost_text}
 use Rattle.writing.specs.Lines.{line_text}
 use Rattle.writing.proofs.OfLost.{lost_skip, lost_more, lost_within}
@@ -26,6 +25,3 @@ loop-i-preserved c =
       | then-record-ne0 w ↦ rw w.self-is (writes_same (lost_more es i c.loop-i-test.true w.from.result w.from.ensures w.if-record-ne0.true) (writes_more c.loop-i.invariant w.put_line.ensures))
       | else-record-ne0 w ↦ rw w.self-is (writes_same (lost_skip es i c.loop-i-test.true w.if-record-ne0.false) c.loop-i.invariant)
     ]
-
-pub returns : goal.returns
-returns c = writes_same (ap (λ l. lost_text 0 l []) (take_all c.loop-i.i c.args.records.now c.loop-i-test.false)) c.loop-i.invariant
