@@ -13,22 +13,28 @@ const COLUMNS: usize = 6;
 
 const ROWS: usize = 4;
 
-const CELLS: usize = 24;
+const CELLS: usize = COLUMNS * ROWS;
 
 const PICTURE: [u16; CELLS] = [
     12, 12, 12, 12, 12, 12, 12, 90, 90, 12, 70, 12, 12, 90, 90, 12, 70, 12, 12, 12, 12, 12, 70, 12,
 ];
 
-const DIRECTIONS: [(i32, i32); 5] = [(1, 0), (1, 1), (0, 1), (-1, 1), (-2, 1)];
+const PLACES: usize = 5;
+
+const DIRECTIONS: [Direction; PLACES] = [
+    Direction { p: 1, q: 0 },
+    Direction { p: 1, q: 1 },
+    Direction { p: 0, q: 1 },
+    Direction { p: -1, q: 1 },
+    Direction { p: -2, q: 1 },
+];
 // All bins of the five directions.
 const BINS: usize = 40;
 
+const ZERO: SumWord = SumWord { value: 0 };
+
 fn picture() -> [SumWord; CELLS] {
-    let mut cells = [SumWord { value: 0 }; CELLS];
-    for i in 0..CELLS {
-        cells[i] = SumWord { value: PICTURE[i] };
-    }
-    cells
+    PICTURE.map(|value| SumWord { value })
 }
 
 // The cells as words of a line.
@@ -38,58 +44,50 @@ fn show(rt: &HostRuntime, name: &str, cells: &[SumWord]) -> anyhow::Result<()> {
         let value = cell.value;
         write!(&mut line, " {value}")?;
     }
-    rt.println(line.as_str())?;
+    rt.println(line)?;
     Ok(())
 }
 
 fn show_rows(rt: &HostRuntime, cells: &[SumWord]) -> anyhow::Result<()> {
-    for l in 0..ROWS {
-        if (l + 1) * COLUMNS <= cells.len() {
-            show(rt, "row:", &cells[l * COLUMNS..(l + 1) * COLUMNS])?;
-        }
+    for row in cells.chunks(COLUMNS) {
+        show(rt, "row:", row)?;
     }
     Ok(())
 }
 
 fn show_refusal(rt: &HostRuntime, fault: Fault) -> anyhow::Result<()> {
-    let told = Refusal::from(fault);
-    let (n, a, b, c) = (told.number, told.first, told.second, told.third);
-    println!(rt; "(refused {n} {a} {b} {c})")?;
+    let refusal = Refusal::from(fault);
+    println!(rt; "({refusal})")?;
     Ok(())
 }
 
-// Writes every projection into the run, and prints it.
-fn record_all(rt: &HostRuntime, cells: &[SumWord], run: &mut [SumWord]) -> anyhow::Result<()> {
-    let mut start = 0;
-    for (p, q) in DIRECTIONS {
-        if start <= run.len() {
-            let sums = &mut run[start..];
-            match project(COLUMNS, ROWS, Direction { p, q }, cells, sums) {
-                Ok(bins) if bins <= sums.len() => {
-                    let name = format!(in rt.alloc(); "({p}, {q}):")?;
-                    show(rt, name.as_str(), &sums[0..bins])?;
-                    start = start.saturating_add(bins);
-                }
-                Ok(_) => {}
-                Err(fault) => show_refusal(rt, fault)?,
+// The sums of every direction, one after another, each printed too.
+fn record_all(rt: &HostRuntime, cells: &[SumWord]) -> anyhow::Result<Vec<SumWord>> {
+    let mut run = Vec::new(rt.alloc());
+    for direction in DIRECTIONS {
+        let mut sums = [ZERO; BINS];
+        match project(COLUMNS, ROWS, direction, cells, &mut sums) {
+            Ok(bins) => {
+                let sums = &sums[..bins.min(BINS)];
+                let Direction { p, q } = direction;
+                let name = format!(in rt.alloc(); "({p}, {q}):")?;
+                show(rt, &name, sums)?;
+                run.extend_from_slice(sums)?;
             }
+            Err(fault) => show_refusal(rt, fault)?,
         }
     }
-    Ok(())
+    Ok(run)
 }
 
 // Rebuilds the picture, and prints it, or the ghost.
-fn rebuild_from<'a>(
-    rt: &HostRuntime,
-    records: &'a [Record],
-    run: &'a [SumWord],
-) -> anyhow::Result<()> {
+fn rebuild_from(rt: &HostRuntime, records: &[Record], run: &[SumWord]) -> anyhow::Result<()> {
     let rack = match Rack::new(COLUMNS, ROWS, records, run) {
         Ok(rack) => rack,
         Err(fault) => return show_refusal(rt, fault),
     };
     let mut plan = Plan::fresh();
-    let (mut cells, mut sums) = ([SumWord { value: 0 }; CELLS], [SumWord { value: 0 }; BINS]);
+    let (mut cells, mut sums) = ([ZERO; CELLS], [ZERO; BINS]);
     let (mut marks, mut counts, mut queue) = ([0; CELLS], [0; BINS], [0; BINS]);
     let answer = rebuild(
         &rack,
@@ -106,32 +104,24 @@ fn rebuild_from<'a>(
     show_rows(rt, &cells)
 }
 
-// The records of the five places, some lost.
-fn records_with(causes: [u8; 5]) -> [Record; 5] {
-    let direction = Direction { p: 0, q: 1 };
-    let mut records = [Record {
-        direction,
-        cause: 0,
-    }; 5];
-    for i in 0..5 {
-        let (p, q) = DIRECTIONS[i];
-        records[i] = Record {
-            direction: Direction { p, q },
-            cause: causes[i],
-        };
-    }
-    records
+// Rebuilds the picture where places are lost for these causes, and whole for cause 0.
+fn rebuild_without(rt: &HostRuntime, causes: [u8; PLACES], run: &[SumWord]) -> anyhow::Result<()> {
+    let records: Vec<Record> = DIRECTIONS
+        .into_iter()
+        .zip(causes)
+        .map(|(direction, cause)| Record { direction, cause })
+        .collect(rt.alloc())?;
+    rebuild_from(rt, &records, run)
 }
 
 fn run(rt: &HostRuntime) -> anyhow::Result<()> {
     let cells = picture();
     show_rows(rt, &cells)?;
-    let mut run = [SumWord { value: 0 }; BINS];
-    record_all(rt, &cells, &mut run)?;
+    let run = record_all(rt, &cells)?;
     rt.println("without (1, 0):")?;
-    rebuild_from(rt, &records_with([7, 0, 0, 0, 0]), &run)?;
+    rebuild_without(rt, [7, 0, 0, 0, 0], &run)?;
     rt.println("without (-2, 1) too:")?;
-    rebuild_from(rt, &records_with([7, 0, 0, 0, 9]), &run)
+    rebuild_without(rt, [7, 0, 0, 0, 9], &run)
 }
 
 fn main(rt: HostRuntime) -> anyhow::Result<()> {

@@ -1,161 +1,138 @@
 // One case of each set.
-use crate::lists::{cells_of, records_of, samples_of};
-use crate::shows::{show_cells, show_refusal, show_samples};
+use crate::shows::{Failure, show_numbers};
 use crate::words::Words;
-use mojette::{Direction, Fault};
+use mojette::{Fault, Record, Refusal};
 use plan::Plan;
 use plan::project::project;
 use samples::{Coded, Pair, SumWord, XorWord};
 use source::strip::strip;
 use source::{Rack, Source};
-use std::alloc::Global;
+use std::alloc::{AllocError, Global};
 use std::fmt::Write;
 
-fn project_case<K: Coded>(heap: Global, words: &mut Words, out: &mut String) -> anyhow::Result<()> {
-    let columns = words.size();
-    let rows = words.size();
-    let p = words.signed();
-    let q = words.signed();
-    let picture = samples_of::<K>(heap, words)?;
-    let mut sums = samples_of::<K>(heap, words)?;
-    let direction = Direction { p, q };
-    match project(
-        columns,
-        rows,
-        direction,
-        picture.as_slice(),
-        sums.as_mut_slice(),
-    ) {
-        Ok(_) => {
-            out.push_str("ok")?;
-            show_samples(out, sums.as_slice())
-        }
-        Err(fault) => show_refusal(out, fault),
-    }
-}
-
-fn show_ghost_of<K: Coded>(plan: &Plan, picture: &mut [K], out: &mut String) -> anyhow::Result<()> {
-    match plan.show_ghost(picture) {
-        Ok(criterion) => {
-            let (c, r) = (criterion.columns, criterion.rows);
-            let verdict = if criterion.enough { "enough" } else { "ghost" };
-            write!(out, "{verdict} {c} {r}")?;
-            show_samples(out, picture)
-        }
-        Err(fault) => show_refusal(out, fault),
-    }
-}
-
-fn ghost_case<K: Coded>(heap: Global, words: &mut Words, out: &mut String) -> anyhow::Result<()> {
-    let columns = words.size();
-    let rows = words.size();
-    let records = records_of(heap, words)?;
-    let mut picture = samples_of::<K>(heap, words)?;
-    match Plan::of(columns, rows, records.as_slice()) {
-        Ok(plan) => show_ghost_of(&plan, picture.as_mut_slice(), out),
-        Err(fault) => show_refusal(out, fault),
-    }
-}
-
-// The questions put to a rack.
-fn ask<K: Coded>(
-    rack: &Rack<K>,
-    question: u64,
+fn project_case<K: Coded>(
+    alloc: Global,
     words: &mut Words,
     out: &mut String,
-) -> anyhow::Result<()> {
-    if question == 1 {
-        let sizes = rack.sizes();
-        let (p, q, n) = (sizes.columns, sizes.rows, sizes.places);
-        write!(out, "ok {p} {q} {n}")?;
-        return Ok(());
+) -> Result<(), Failure> {
+    let (columns, rows) = words.sides();
+    let direction = words.direction();
+    let picture = words.samples::<K>(alloc)?;
+    let mut sums = words.samples::<K>(alloc)?;
+    project(columns, rows, direction, &picture, &mut sums)?;
+    out.push_str("ok")?;
+    show_numbers(out, sums.iter().map(|x| x.to_number()))
+}
+
+fn ghost_case<K: Coded>(alloc: Global, words: &mut Words, out: &mut String) -> Result<(), Failure> {
+    let (columns, rows) = words.sides();
+    let records = words.records(alloc)?;
+    let mut picture = words.samples::<K>(alloc)?;
+    let plan = Plan::of(columns, rows, &records)?;
+    let criterion = plan.show_ghost(&mut picture)?;
+    let verdict = if criterion.enough { "enough" } else { "ghost" };
+    let (c, r) = (criterion.columns, criterion.rows);
+    write!(out, "{verdict} {c} {r}")?;
+    show_numbers(out, picture.iter().map(|x| x.to_number()))
+}
+
+// What a rack is made from.
+#[derive(Drop)]
+struct Contents<K> {
+    columns: usize,
+    rows: usize,
+    records: Vec<Record>,
+    run: Vec<K>,
+}
+
+impl<K: Coded> Contents<K> {
+    fn of(alloc: Global, words: &mut Words) -> Result<Contents<K>, AllocError> {
+        let (columns, rows) = words.sides();
+        let records = words.records(alloc)?;
+        let run = words.samples(alloc)?;
+        Ok(Contents {
+            columns,
+            rows,
+            records,
+            run,
+        })
     }
-    let i = words.size();
-    if question == 2 {
-        match rack.place(i) {
-            Ok(entry) => {
-                let (p, q, cause) = (entry.direction.p, entry.direction.q, entry.cause);
-                write!(out, "ok {p} {q} {cause}")?;
-                return Ok(());
-            }
-            Err(fault) => return show_refusal(out, fault),
-        }
-    }
-    match rack.bin(i, words.size()) {
-        Ok(x) => {
-            let n = x.to_number();
-            write!(out, "ok {n}")?;
-            Ok(())
-        }
-        Err(fault) => show_refusal(out, fault),
+
+    fn rack(&self) -> Result<Rack<'_, K>, Fault> {
+        Rack::new(self.columns, self.rows, &self.records, &self.run)
     }
 }
 
-fn ask_case<K: Coded>(
-    heap: Global,
-    question: u64,
-    words: &mut Words,
-    out: &mut String,
-) -> anyhow::Result<()> {
-    let columns = words.size();
-    let rows = words.size();
-    let records = records_of(heap, words)?;
-    let run = samples_of::<K>(heap, words)?;
-    match Rack::new(columns, rows, records.as_slice(), run.as_slice()) {
-        Ok(rack) => ask(&rack, question, words, out),
-        Err(fault) => show_refusal(out, fault),
-    }
+fn strip_case(alloc: Global, words: &mut Words, out: &mut String) -> Result<(), Failure> {
+    let contents = Contents::<SumWord>::of(alloc, words)?;
+    let place = words.number();
+    let mut cells = words.cells(alloc)?;
+    strip(&contents.rack()?, place, &mut cells)?;
+    out.push_str("ok")?;
+    show_numbers(out, cells.iter().map(|n| u64::from(*n)))
 }
 
-fn strip_case(heap: Global, words: &mut Words, out: &mut String) -> anyhow::Result<()> {
-    let columns = words.size();
-    let rows = words.size();
-    let records = records_of(heap, words)?;
-    let run = samples_of::<SumWord>(heap, words)?;
-    let place = words.size();
-    let mut cells = cells_of(heap, words)?;
-    let rack = match Rack::new(columns, rows, records.as_slice(), run.as_slice()) {
-        Ok(rack) => rack,
-        Err(fault) => return show_refusal(out, fault),
-    };
-    match strip(&rack, place, cells.as_mut_slice()) {
-        Ok(_) => {
-            out.push_str("ok")?;
-            show_cells(out, cells.as_slice())
-        }
-        Err(fault) => show_refusal(out, fault),
-    }
+fn sizes_case<K: Coded>(alloc: Global, words: &mut Words, out: &mut String) -> Result<(), Failure> {
+    let contents = Contents::<K>::of(alloc, words)?;
+    let sizes = contents.rack()?.sizes();
+    let (columns, rows, places) = (sizes.columns, sizes.rows, sizes.places);
+    write!(out, "ok {columns} {rows} {places}")?;
+    Ok(())
 }
 
-// A case whose samples are of the kind that its first number names.
+fn place_case<K: Coded>(alloc: Global, words: &mut Words, out: &mut String) -> Result<(), Failure> {
+    let contents = Contents::<K>::of(alloc, words)?;
+    let Record { direction, cause } = contents.rack()?.place(words.number())?;
+    let (p, q) = (direction.p, direction.q);
+    write!(out, "ok {p} {q} {cause}")?;
+    Ok(())
+}
+
+fn bin_case<K: Coded>(alloc: Global, words: &mut Words, out: &mut String) -> Result<(), Failure> {
+    let contents = Contents::<K>::of(alloc, words)?;
+    let place = words.number();
+    let sample = contents.rack()?.bin(place, words.number())?;
+    let number = sample.to_number();
+    write!(out, "ok {number}")?;
+    Ok(())
+}
+
+// A case of a set at a kind of sample. The set `strip` has a question first: 0 for a strip, 1 for the sizes, 2 for a place, 3 for a bin.
 fn case_of<K: Coded>(
-    heap: Global,
-    set: &[u8],
+    alloc: Global,
+    set: &str,
     words: &mut Words,
     out: &mut String,
-) -> anyhow::Result<()> {
-    if set == b"project".as_slice() {
-        return project_case::<K>(heap, words, out);
-    }
-    if set == b"ghost".as_slice() {
-        return ghost_case::<K>(heap, words, out);
-    }
-    let question = words.natural();
-    if question == 0 {
-        strip_case(heap, words, out)
-    } else {
-        ask_case::<K>(heap, question, words, out)
+) -> Result<(), Failure> {
+    match set {
+        "project" => project_case::<K>(alloc, words, out),
+        "ghost" => ghost_case::<K>(alloc, words, out),
+        _ => match words.word() {
+            "0" => strip_case(alloc, words, out),
+            "1" => sizes_case::<K>(alloc, words, out),
+            "2" => place_case::<K>(alloc, words, out),
+            _ => bin_case::<K>(alloc, words, out),
+        },
     }
 }
 
-pub fn answer(heap: Global, line: &[u8]) -> anyhow::Result<String> {
-    let mut words = Words::new(line);
-    let mut out = String::new(heap);
+// The answer to a line: a set, 0 for sum words, 1 for XOR words or 2 for pairs, and a case.
+pub fn answer(alloc: Global, line: &str) -> anyhow::Result<String> {
+    let mut words = Words::of(line);
+    let mut out = String::new(alloc);
     let set = words.word();
-    match words.natural() {
-        0 => case_of::<SumWord>(heap, set, &mut words, &mut out)?,
-        1 => case_of::<XorWord>(heap, set, &mut words, &mut out)?,
-        _ => case_of::<Pair<SumWord, XorWord>>(heap, set, &mut words, &mut out)?,
+    let answered = match words.word() {
+        "0" => case_of::<SumWord>(alloc, set, &mut words, &mut out),
+        "1" => case_of::<XorWord>(alloc, set, &mut words, &mut out),
+        _ => case_of::<Pair<SumWord, XorWord>>(alloc, set, &mut words, &mut out),
+    };
+    match answered {
+        Ok(()) => Ok(out),
+        Err(Failure::Refused(fault)) => {
+            let refusal = Refusal::from(fault);
+            write!(out, "{refusal}")?;
+            Ok(out)
+        }
+        Err(Failure::Broken(error)) => Err(error),
     }
-    Ok(out)
 }

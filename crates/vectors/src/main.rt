@@ -2,7 +2,6 @@
 #![tactic(auto)]
 
 mod cases;
-mod lists;
 mod shows;
 mod words;
 
@@ -10,9 +9,8 @@ use std::io::{BufRead, BufReader};
 
 fn run(rt: &HostRuntime) -> anyhow::Result<()> {
     for line in BufReader::new(rt.alloc(), rt.stdin())?.lines(rt.alloc()) {
-        let line = line?;
-        let answer = cases::answer(rt.alloc(), line.as_str().as_bytes())?;
-        rt.println(answer.as_str())?;
+        let answer = cases::answer(rt.alloc(), line?.as_str())?;
+        rt.println(answer)?;
     }
     Ok(())
 }

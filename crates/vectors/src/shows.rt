@@ -1,26 +1,43 @@
-// The words of an answer.
-use mojette::{Fault, Refusal};
-use samples::Coded;
+// The words of an answer, and why there is none.
+ghost use Rattle.std.specs.Iterator.{IsFinite};
+
+use mojette::Fault;
+use std::alloc::AllocError;
+use std::fmt;
 use std::fmt::Write;
 
-pub fn show_samples<K: Coded>(out: &mut String, cells: &[K]) -> anyhow::Result<()> {
-    for x in cells {
-        let n = x.to_number();
-        write!(out, " {n}")?;
-    }
-    Ok(())
+#[derive(Drop)]
+pub enum Failure {
+    // The bench refused a call.
+    Refused(Fault),
+    // The program cannot go on.
+    Broken(anyhow::Error),
 }
 
-pub fn show_cells(out: &mut String, cells: &[u16]) -> anyhow::Result<()> {
-    for n in cells {
-        write!(out, " {n}")?;
+impl From<Fault> for Failure {
+    fn from(fault: Fault) -> Failure {
+        Failure::Refused(fault)
     }
-    Ok(())
 }
 
-pub fn show_refusal(out: &mut String, fault: Fault) -> anyhow::Result<()> {
-    let told = Refusal::from(fault);
-    let (n, a, b, c) = (told.number, told.first, told.second, told.third);
-    write!(out, "refused {n} {a} {b} {c}")?;
+impl From<AllocError> for Failure {
+    fn from(error: AllocError) -> Failure {
+        Failure::Broken(anyhow::Error::from(error))
+    }
+}
+
+impl From<fmt::Error> for Failure {
+    fn from(error: fmt::Error) -> Failure {
+        Failure::Broken(anyhow::Error::from(error))
+    }
+}
+
+// Numbers, each after a space.
+pub fn show_numbers<I: Iterator<Item = u64>>(out: &mut String, numbers: I) -> Result<(), Failure>
+    requires { I.can_next numbers × IsFinite (I.remaining numbers) }
+{
+    for number in numbers {
+        write!(out, " {number}")?;
+    }
     Ok(())
 }

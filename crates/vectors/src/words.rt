@@ -1,90 +1,78 @@
-// The numbers of a line, one after another.
+// The words of a line, one after another.
+use mojette::{Direction, Record};
+use samples::Coded;
+use std::alloc::{AllocError, Global};
+use std::str::{FromStr, Split};
 
 #[derive(Drop)]
 pub struct Words<'a> {
-    text: &'a [u8],
-    at: usize,
+    words: Split<'a, char>,
 }
 
 impl<'a> Words<'a> {
-    pub fn new(text: &'a [u8]) -> Words<'a> {
-        Words { text, at: 0 }
-    }
-
-    fn peek(&self) -> u8 {
-        if self.at < self.text.len() {
-            self.text[self.at]
-        } else {
-            0
+    pub fn of(line: &'a str) -> Words<'a> {
+        Words {
+            words: line.split(' '),
         }
     }
 
-    fn step(&mut self) {
-        self.at = self.at.saturating_add(1);
+    // The next word; an empty one at the end of the line.
+    pub fn word(&mut self) -> &'a str {
+        self.words.next().unwrap_or("")
     }
 
-    // The digits that follow, as a number.
-    fn digits(&mut self) -> u64 {
-        let mut n: u64 = 0;
-        for _ in 0..20 {
-            let b = self.peek();
-            if b < b'0' || b > b'9' {
-                return n;
-            }
-            n = n.wrapping_mul(10).wrapping_add(u64::from(b - b'0'));
-            self.step();
-        }
-        n
+    // The next word as a number; 0 where it is none.
+    pub fn number<T: FromStr + Default + Drop>(&mut self) -> T
+    where
+        T::Err: Drop,
+    {
+        self.word().parse().unwrap_or_default()
     }
 
-    // The next word, to the next space.
-    pub fn word(&mut self) -> &'a [u8] {
-        if self.peek() == b' ' {
-            self.step();
-        }
-        let from = self.at.min(self.text.len());
-        let mut to = from;
-        for i in from..self.text.len() {
-            if self.text[i] == b' ' {
-                break;
-            }
-            to = i + 1;
-        }
-        self.at = to;
-        if from <= to && to <= self.text.len() {
-            &self.text[from..to]
-        } else {
-            &self.text[0..0]
-        }
+    // P and Q.
+    pub fn sides(&mut self) -> (usize, usize) {
+        let columns = self.number();
+        let rows = self.number();
+        (columns, rows)
     }
 
-    // The next number, without its sign; 0 at the end of the line.
-    pub fn natural(&mut self) -> u64 {
-        if self.peek() == b' ' {
-            self.step();
-        }
-        if self.peek() == b'-' {
-            self.step();
-        }
-        self.digits()
+    pub fn direction(&mut self) -> Direction {
+        let p = self.number();
+        let q = self.number();
+        Direction { p, q }
     }
 
-    pub fn size(&mut self) -> usize {
-        self.natural() as usize
+    fn record(&mut self) -> Record {
+        let direction = self.direction();
+        let cause = self.number();
+        Record { direction, cause }
     }
 
-    // The next number, where it fits 32 bits with a sign.
-    pub fn signed(&mut self) -> i32 {
-        let from = self.at;
-        let n = self.natural();
-        let minus = from < self.text.len() && self.text[from] == b'-'
-            || from.saturating_add(1) < self.text.len()
-                && self.text[from.saturating_add(1)] == b'-';
-        let size = (n % 0x1_0000_0000) as i64;
-        let value = if minus { -size } else { size };
-        match i32::try_from(value) {
-            Ok(z) => z,
-            Err(_) => 0,
+    // A list: how many items, and then each.
+    fn list<T: Drop, F: Fn(&mut Words<'a>) -> T>(
+        &mut self,
+        alloc: Global,
+        read: F,
+    ) -> Result<Vec<T>, AllocError>
+        requires { F.IsAlwaysCallable read }
+    {
+        let count: usize = self.number();
+        let mut list = Vec::new(alloc);
+        for _ in 0..count {
+            list.push(read(self))?;
         }
+        Ok(list)
+    }
+
+    pub fn records(&mut self, alloc: Global) -> Result<Vec<Record>, AllocError> {
+        self.list(alloc, |words| words.record())
+    }
+
+    pub fn samples<K: Coded>(&mut self, alloc: Global) -> Result<Vec<K>, AllocError> {
+        self.list(alloc, |words| K::from_number(words.number()))
+    }
+
+    pub fn cells(&mut self, alloc: Global) -> Result<Vec<u16>, AllocError> {
+        self.list(alloc, |words| words.number())
     }
 }

@@ -1,5 +1,6 @@
 pub mod OfSplices
 pub mod OfFilling
-pub mod OfTexts
+pub mod OfLines
 pub mod OfLost
+pub mod OfRows
 pub mod OfTile

@@ -1,1 +1,3 @@
 pub mod Splices
+pub mod Writers
+pub mod Lines

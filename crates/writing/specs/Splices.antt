@@ -1,16 +1,11 @@
 -- Writing text into a table of bytes.
-use Rattle.std.specs.Prelude.{◌≡◌, ℕ, ◌+◌, ◌*◌, cond, List, ◌++◌, length, take, drop, nat_lt}
+use Rattle.std.specs.Prelude.{ℕ, ◌+◌, ◌*◌, cond, List, ◌++◌, length, take, drop, nat_lt}
 use Rattle.mojette.specs.Faults.{Outcome, served, refuses}
 use Rattle.mojette.specs.Refusals.{refusal}
 
 -- out with a text in its cells from `from` on, and nothing else changed
 unfoldable pub spliced : ℕ → List ℕ → List ℕ → List ℕ
 spliced from text out = take from out ++ (text ++ drop (from + length text) out)
-
--- a call that wrote a text into out from `from` on left it as after, and answered the end of the text
-pub record Writes (text : List ℕ) (from : ℕ) (out : List ℕ) (to : ℕ) (after : List ℕ) : Type 0 where
-  pub ends : to ≡ from + length text
-  pub cells : after ≡ spliced from text out
 
 -- A call that writes a text into the first cells of out: its answer, and what it leaves. Where it is too long, nothing is written.
 abbrev pub filling : List ℕ → List ℕ → Outcome ℕ × List ℕ

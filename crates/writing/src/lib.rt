@@ -2,5 +2,5 @@
 #![tactic(auto)]
 
 pub mod listing;
-mod put;
 mod tile;
+mod writer;

@@ -1,121 +1,61 @@
 // Writing the parts of a listing.
-ghost use Rattle.std.specs.Prelude.{◌≡◌, suc, ◌+◌, ◌*◌, ◌≤◌, [], ◌∷◌, ◌++◌, length, take, drop, codes as text, decimal};
+ghost use Rattle.std.specs.Prelude.{◌≡◌, ◌*◌, ◌≤◌, [], length};
 ghost use Rattle.mojette.specs.Bounds.{most_places};
 ghost use Rattle.format.specs.Listing.{lost_text, rows_text};
-ghost use Rattle.format.specs.Texts.{codes_text, head_text};
-ghost use Rattle.writing.specs.Splices.{Writes};
+ghost use Rattle.format.specs.Texts.{head_text};
+ghost use Rattle.writing.specs.Lines.{row_text};
+ghost use Rattle.writing.specs.Writers.{has_room, Writes};
 
-use crate::put::{decimal_len, put, put_code, put_decimal};
-use mojette::Record;
+use crate::writer::{Writer, line_len};
+use mojette::{Record, Size};
 use samples::Coded;
 
-// The first line: a word, the name of a kind, and the sizes.
-pub(crate) fn put_head(
-    out: &mut [u8],
-    at: usize,
-    word: &[u8],
-    name: &[u8],
-    columns: usize,
-    rows: usize,
-) -> usize
-    requires { at + (6 + length word.now + length name.now + length (decimal columns) + length (decimal rows)) ≤ length out.old }
-    ensures { Writes (head_text word.now name.now columns rows []) at out.old result out.new }
-{
-    let mut end = put(out, at, b"(");
-    end = put(out, end, word);
-    end = put(out, end, b" ");
-    end = put(out, end, name);
-    end = put(out, end, b" ");
-    end = put_decimal(out, end, columns);
-    end = put(out, end, b" ");
-    end = put_decimal(out, end, rows);
-    put(out, end, b")\n")
-}
-
-// The codes of samples, each after a space.
-fn put_codes<K: Coded>(out: &mut [u8], at: usize, samples: &[K]) -> usize
-    requires { at + length samples.now * suc K.Coded.width ≤ length out.old }
-    ensures { Writes (codes_text K.Coded.own samples.now []) at out.old result out.new }
-{
-    let mut end = at;
-    for sample in samples {
-        end = put(out, end, b" ");
-        end = put_code(out, end, *sample);
+impl<'a> Writer<'a> {
+    // The first line: a word, the name of a kind, and the sizes.
+    pub(crate) fn put_head(&mut self, word: &[u8], name: &[u8], size: Size)
+        requires { has_room self.old (head_text word.now name.now size.columns size.rows []) }
+        ensures { Writes (head_text word.now name.now size.columns size.rows []) self.old self.new }
+    {
+        self.put(b"(");
+        self.put(word);
+        self.put(b" ");
+        self.put(name);
+        self.put_numbers(&[size.columns, size.rows]);
+        self.put(b")\n");
     }
-    end
-}
 
-// A line of a row of samples.
-fn put_row<K: Coded>(out: &mut [u8], at: usize, samples: &[K]) -> usize
-    requires { at + (length samples.now * suc K.Coded.width + 6) ≤ length out.old }
-    ensures { Writes (text "(row" ++ codes_text K.Coded.own samples.now (text ")" ++ (10 ∷ []))) at out.old result out.new }
-{
-    let mut end = put(out, at, b"(row");
-    end = put_codes(out, end, samples);
-    put(out, end, b")\n")
-}
-
-// Row l of a picture.
-fn row_of<K: Coded>(picture: &[K], columns: usize, l: usize) -> &[K]
-    requires { l * columns + columns ≤ length picture.now }
-    ensures part { result.now ≡ take columns (drop (l * columns) picture.now) }
-    ensures len { length result.now ≡ columns }
-{
-    let begin = l * columns;
-    &picture[begin..begin + columns]
-}
-
-// The lines of the rows of a picture.
-pub(crate) fn put_rows<K: Coded>(
-    out: &mut [u8],
-    at: usize,
-    columns: usize,
-    rows: usize,
-    picture: &[K],
-) -> usize
-    requires size { columns * rows ≤ length picture.now }
-    requires room { at + rows * (columns * suc K.Coded.width + 6) ≤ length out.old }
-    ensures { Writes (rows_text K.Kind K.Coded.own columns picture.now 0 rows []) at out.old result out.new }
-{
-    let mut end = at;
-    for l in 0..rows {
-        end = put_row(out, end, row_of(picture, columns, l));
+    // The lines of the lost places.
+    pub(crate) fn put_lost(&mut self, records: &[Record])
+        requires { has_room self.old (lost_text 0 records.now []) }
+        ensures { Writes (lost_text 0 records.now []) self.old self.new }
+    {
+        for (i, record) in records.iter().enumerate() {
+            if record.cause != 0 {
+                self.put_line(b"lost", &[i, usize::from(record.cause)]);
+            }
+        }
     }
-    end
-}
 
-// How long the line of place i is; 0 where it is whole.
-fn lost_line_len(i: usize, record: Record) -> usize
-    ensures value { result ≡ length (lost_text i («record» ∷ []) []) }
-    ensures small { result ≤ 49 }
-{
-    if record.cause == 0 {
-        return 0;
+    // The line of a row of samples.
+    fn put_row<K: Coded>(&mut self, samples: &[K])
+        requires { has_room self.old (row_text K.Coded.own samples.now) }
+        ensures { Writes (row_text K.Coded.own samples.now) self.old self.new }
+    {
+        self.put(b"(row");
+        self.put_codes(samples);
+        self.put(b")\n");
     }
-    9 + decimal_len(i) + decimal_len(usize::from(record.cause))
-}
 
-// The line of place i, lost for a cause.
-fn put_lost_line(out: &mut [u8], at: usize, i: usize, cause: u8) -> usize
-    requires { at + (9 + length (decimal i) + length (decimal cause)) ≤ length out.old }
-    ensures { Writes (text "(lost " ++ (decimal i ++ (32 ∷ (decimal cause ++ (text ")" ++ (10 ∷ [])))))) at out.old result out.new }
-{
-    let mut end = put(out, at, b"(lost ");
-    end = put_decimal(out, end, i);
-    end = put(out, end, b" ");
-    end = put_decimal(out, end, usize::from(cause));
-    put(out, end, b")\n")
-}
-
-// The line of place i; none where it is whole.
-fn put_if_lost(out: &mut [u8], at: usize, i: usize, record: Record) -> usize
-    requires { at + length (lost_text i («record» ∷ []) []) ≤ length out.old }
-    ensures { Writes (lost_text i («record» ∷ []) []) at out.old result out.new }
-{
-    if record.cause == 0 {
-        return at;
+    // The lines of the rows of a picture.
+    pub(crate) fn put_rows<K: Coded>(&mut self, size: Size, picture: &[K])
+        requires pixels { size.columns * size.rows ≤ length picture.now }
+        requires room { has_room self.old (rows_text K.Kind K.Coded.own size.columns picture.now 0 size.rows []) }
+        ensures { Writes (rows_text K.Kind K.Coded.own size.columns picture.now 0 size.rows []) self.old self.new }
+    {
+        for row in picture[..size.pixels()].chunks_exact(size.columns) {
+            self.put_row(row);
+        }
     }
-    put_lost_line(out, at, i, record.cause)
 }
 
 // How long the lines of the lost places are.
@@ -126,19 +66,9 @@ pub(crate) fn lost_len(records: &[Record]) -> usize
 {
     let mut len = 0;
     for (i, record) in records.iter().enumerate() {
-        len += lost_line_len(i, *record);
+        if record.cause != 0 {
+            len += line_len(b"lost", &[i, usize::from(record.cause)]);
+        }
     }
     len
-}
-
-// The lines of the lost places.
-pub(crate) fn put_lost(out: &mut [u8], at: usize, records: &[Record]) -> usize
-    requires { at + length (lost_text 0 records.now []) ≤ length out.old }
-    ensures { Writes (lost_text 0 records.now []) at out.old result out.new }
-{
-    let mut end = at;
-    for (i, record) in records.iter().enumerate() {
-        end = put_if_lost(out, end, i, *record);
-    }
-    end
 }

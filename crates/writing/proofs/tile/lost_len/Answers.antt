@@ -1,21 +1,20 @@
-use Rattle.std.proofs.Common.{[], ◌∷◌, length, get_or, take, pos, ap, ◌∙◌, arith, length-append}
-use Rattle.std.proofs.lemmas.List.{take_all}
-use Rattle.mojette.specs.declared.direction.Record.{Record}
+use Rattle.std.proofs.Common.{[], ◌∷◌, length, take, ap, length-append, codes as text, arith}
 use Rattle.format.specs.Listing.{lost_text}
-use Rattle.writing.proofs.OfLost.{lost_more}
+use Rattle.writing.specs.Lines.{line_text}
+use Rattle.writing.proofs.OfLost.{lost_skip, lost_more}
 use Rattle.writing.proofs.tile.lost_len.Goals as goal
-
--- what stands beyond the end of the records
-abbrev blank : Record
-blank = record { direction = record { p = pos 0; q = pos 0 }; cause = 0 }
+use Rattle.writing.proofs.tile.lost_len.Goals.{then-record-ne0, else-record-ne0}
 
 pub loop-i-preserved : goal.loop-i-preserved
 loop-i-preserved c =
     let es = c.args.records.now in
-    let e = ap length (lost_more es c.loop-i.i blank c.loop-i-test.true) ∙ length-append (lost_text 0 (take c.loop-i.i es) []) (lost_text c.loop-i.i (get_or es c.loop-i.i blank ∷ []) []) in
-    (omega (arith, c.loop-i.invariant.0, c.lost_line_len-len.ensures.value), omega (arith, c.loop-i.invariant.1, c.lost_line_len-len.ensures.small))
-
-pub returns : goal.returns
-returns c =
-    let e = ap (λ l. length (lost_text 0 l [])) (take_all c.loop-i.i c.args.records.now c.loop-i-test.false) in
-    record { value = c.loop-i.invariant.0 ∙ e; small = omega (arith, c.loop-i.invariant.1, c.requires) }
+    let i = c.loop-i.i in
+    elim c.if-record-ne0.branch [
+      | then-record-ne0 w ↦
+          let e = ap length (lost_more es i c.loop-i-test.true w.from.result w.from.ensures w.if-record-ne0.true) in
+          let l = length-append (lost_text 0 (take i es) []) (line_text (text "lost") (i ∷ (w.from.result ∷ []))) in
+          rw w.len-is (omega (arith, c.loop-i.invariant.0, w.line_len-len.ensures.value), omega (arith, c.loop-i.invariant.1, w.line_len-len.ensures.short))
+      | else-record-ne0 w ↦
+          let e = ap length (lost_skip es i c.loop-i-test.true w.if-record-ne0.false) in
+          rw w.len-is (omega (arith, c.loop-i.invariant.0), omega (arith, c.loop-i.invariant.1))
+    ]
