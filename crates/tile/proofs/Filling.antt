@@ -1,11 +1,13 @@
 -- Loading a place, by the checks in their order.
-use Rattle.std.proofs.Common.{◌≡◌, ℕ, zero, suc, ◌+◌, ◌<◌, ◌≤◌, Bool, true, false, cond, not, ◌&&◌, eqb, ltb, leb, List, [], ◌∷◌, length, get_or, sym, refl, ap, ◌∙◌, ap₂, arith}
+use Rattle.std.proofs.Common.{◌≡◌, ℕ, zero, suc, ◌+◌, ◌<◌, ◌≤◌, Bool, true, false, cond, not, ◌&&◌, eqb, ltb, leb, List, [], ◌∷◌, length, get_or, Ok, Err, Result, MatchResult, sym, refl, ap, ◌∙◌, ap₂, arith}
 use Rattle.std.proofs.lemmas.List.{length-map}
 use Rattle.std.proofs.lemmas.Bool.{cond-true, cond-false, eq-eqb, ne_eqb, eqb-true, and_parts, and_left, and_right, lt-ltb, le-ltb, le-leb, lt-leb}
 use Rattle.samples.specs.declared.kind.Kind.{Ghosts as Operations}
 use Rattle.mojette.specs.declared.direction.Record.{Record}
+use Rattle.mojette.specs.declared.fault.Fault.{Fault}
 use Rattle.mojette.specs.Bins.{bins, start}
 use Rattle.mojette.specs.Directions.{equal}
+use Rattle.mojette.specs.Faults.{outcome, refusal_of}
 use Rattle.mojette.specs.Meaning.{Shape, Meaning, bins_of}
 use Rattle.mojette.specs.Refusals.{refusal}
 use Rattle.mojette.proofs.Equal.{equal_true}
@@ -14,7 +16,8 @@ use Rattle.plan.specs.declared.plan.Plan.{Plan}
 use Rattle.plan.specs.Laid.{record_of, records_of}
 use Rattle.plan.specs.Laid.{place_at as nth}
 use Rattle.plan.specs.Shapes.{shape, places_of}
-use Rattle.source.specs.Questions.{place_at, bins_at}
+use Rattle.source.specs.Questions.{place_at, bins_at, asked_place}
+use Rattle.source.proofs.Asking.{place_found, place_missed}
 use Rattle.law.specs.Steps.{no_record, same_record, fits, written, with_place, load, loading, done, served, refuse, checked, short_sums, Tables, Outcome}
 use Rattle.walk.proofs.Laying.{bins_are, Turn}
 use Rattle.tile.specs.Outcomes.{tables}
@@ -75,13 +78,18 @@ module _ {S : Type 0} (shape : Shape) (m : Meaning S) (n : ℕ) where
         direction = ap₂ (λ p q. record { p = p; q = q }) (equal_true _ _ d.0) (equal_true _ _ e.0);
       }
 
--- what the code that compares place i finds
-pub same_there : {S : Type 0} (plan : Plan) (m : Meaning S) (i : ℕ) (ys : List Place) → ys ≡ places_of plan → i < length (places_of plan) →
-    m.P ≡ plan.columns → m.Q ≡ plan.rows → length m.places ≡ length ys → (other : Record) → other ≡ (place_at m i).entry →
-    (r : Bool) → r ≡ same_record (record_of (nth ys i)) other → r ≡ fits (shape plan) m i
-same_there plan m i ys e l P Q N other same r is =
-    is ∙ ap₂ same_record (ap (λ zs. record_of (nth zs i)) e ∙ sym (record_at (places_of plan) i l)) same
-    ∙ same_sizes (shape plan) m i P Q (N ∙ ap length e ∙ sym (length-map (places_of plan) record_of))
+-- what the code that compares place i finds, where the sizes are the same
+module _ {S : Type 0} (plan : Plan) (m : Meaning S) (i : ℕ) (ys : List Place) (e : ys ≡ places_of plan) (l : i < length (places_of plan))
+    (P : m.P ≡ plan.columns) (Q : m.Q ≡ plan.rows) (N : length m.places ≡ length ys) where
+  same_there : (entry : Record) → entry ≡ (place_at m i).entry → (r : Bool) → r ≡ same_record (record_of (nth ys i)) entry → r ≡ fits (shape plan) m i
+  same_there entry same r is =
+      is ∙ ap₂ same_record (ap (λ zs. record_of (nth zs i)) e ∙ sym (record_at (places_of plan) i l)) same
+      ∙ same_sizes (shape plan) m i P Q (N ∙ ap length e ∙ sym (length-map (places_of plan) record_of))
+
+  pub same_asked : (asked : Result Record Fault) → outcome asked ≡ asked_place m i → (r : Bool) → MatchResult asked (λ entry. r ≡ same_record (record_of (nth ys i)) entry) (λ _. r ≡ false) →
+      r ≡ fits (shape plan) m i
+  same_asked (Ok entry) is r found = same_there entry (place_found m i entry is).same r found
+  same_asked (Err fault) is r none = let beyond = (place_missed m i (refusal_of fault) is).beyond in absurd (omega (arith, ap length e, N))
 
 -- what the code that writes place i of a source that fits needs of it
 pub record FitsAt {S : Type 0} (plan : Plan) (m : Meaning S) (i : ℕ) (x : Place) : Type 0 where

@@ -1,5 +1,5 @@
 -- Setting up the peeling, table by table, and the outcome of a seal.
-use Rattle.std.proofs.Common.{◌≡◌, ℕ, zero, suc, ◌+◌, ◌-◌, ◌<◌, ◌≤◌, Bool, true, false, cond, not, eqb, ltb, List, length, get_or, set, sym, refl, ap, ◌∙◌, ap₂, add-one, arith}
+use Rattle.std.proofs.Common.{◌≡◌, ℕ, zero, suc, ◌+◌, ◌-◌, ◌<◌, ◌≤◌, Bool, true, false, cond, not, eqb, ltb, List, length, get_or, Some, None, sym, refl, ap, ◌∙◌, ap₂, add-one, arith}
 use Rattle.std.proofs.lemmas.Bool.{cond-true, cond-false, eq-eqb, ne_eqb, lt-ltb, le-ltb}
 use Rattle.samples.specs.declared.kind.Kind.{Ghosts as Operations}
 use Rattle.mojette.specs.Meaning.{Shape, pixels_of, bins_of}
@@ -12,12 +12,9 @@ use Rattle.law.specs.Positions.{incidence}
 use Rattle.law.specs.Steps.{loading, peeling, done, Tables, Outcome, served, refuse, peels_on, checked, short, C, R, criterion, with_ghost, ghosted, blank, world_of, tables_of, seal}
 use Rattle.walk.specs.Counts.{counts_after}
 use Rattle.tile.specs.Outcomes.{tables}
-use Rattle.tile.specs.Seals.{with_position, singles_queued}
-use Rattle.tile.proofs.Checks.{checked_short, checked_long, short_of}
-
-pub fill_more : {X : Type 0} (n : ℕ) (f : ℕ → X) (xs ys : List X) (v : X) → ys ≡ filled n f xs → v ≡ f n → set ys n v ≡ filled (n + 1) f xs
-unfolding filled
-fill_more n f xs ys v e is = ap₂ (λ zs u. set zs n u) e is ∙ sym (ap (λ k. filled k f xs) (add-one n))
+use Rattle.tile.specs.Seals.{unpeeled, with_position, singles_queued}
+use Rattle.tile.specs.Worlds.{short_refusal}
+use Rattle.tile.proofs.Checks.{checked_short, checked_long}
 
 -- Positions queued one after another --------------------------------------------------------------------------------
 
@@ -26,10 +23,10 @@ unfolding singles_queued
 singles_none T counts r = refl
 
 module _ (T k : ℕ) (counts : List ℕ) (r r' : State × List ℕ) (so_far : r' ≡ singles_queued T k counts r) where
-  pub singles_more : get_or counts k 0 ≡ 1 → (s : State) (queue : List ℕ) → s ≡ (with_position T k r').0 → queue ≡ (with_position T k r').1 → (s, queue) ≡ singles_queued T (k + 1) counts r
+  pub singles_more : get_or counts k 0 ≡ 1 → (r″ : State × List ℕ) → r″ ≡ with_position T k r' → r″ ≡ singles_queued T (k + 1) counts r
   unfolding singles_queued
-  singles_more e s queue f g =
-      ap₂ (λ a b. (a, b)) f g ∙ ap (with_position T k) so_far
+  singles_more e r″ f =
+      f ∙ ap (with_position T k) so_far
       ∙ sym (cond-true (eqb (get_or counts k 0) 1) _ (singles_queued T k counts r) (eq-eqb _ 1 e)) ∙ sym (ap (λ n. singles_queued T n counts r) (add-one k))
 
   pub singles_same : (get_or counts k 0 ≡ 1 → ⊥) → r' ≡ singles_queued T (k + 1) counts r
@@ -57,26 +54,26 @@ module _ {S : Type 0} (T : ℕ) (p : List S) (m : List ℕ) (sums : List S) (cou
 
 -- The whole set-up --------------------------------------------------------------------------------------------------
 
-pub counted_is : (shape : Shape) (counts : List ℕ) → bins_of shape ≤ length counts →
+counted_is : (shape : Shape) (counts : List ℕ) → bins_of shape ≤ length counts →
     counts_after shape counts ≡ filled (bins_of shape) (λ b. number (pixels_of shape) (λ c. (incidence shape).lies c b)) counts
 counted_is shape counts long = cond-false _ _ _ (le-ltb _ _ long)
 
-pub begins : {S : Type 0} (K : Operations S) (shape : Shape) (s : State) (sums : List S) (picture picture' : List S) (marks marks' counts counts' queue : List ℕ)
-    (pixels T : ℕ) (none : S) (r : State × List ℕ) → pixels ≡ pixels_of shape → T ≡ bins_of shape → none ≡ K.zero →
-    picture' ≡ filled pixels (λ _. none) picture → marks' ≡ filled pixels (λ _. 0) marks →
-    counts' ≡ filled (bins_of shape) (λ b. number (pixels_of shape) (λ c. (incidence shape).lies c b)) counts →
-    r ≡ singles_queued T T counts' (record { head = 0; waiting = 0; out = 0; left = pixels; settled = 0 }, queue) →
-    world r.0 picture' marks' sums counts' r.1 ≡ peel_seal K (incidence shape) (world s picture marks sums counts queue)
+pub begins : {S : Type 0} (K : Operations S) (shape : Shape) (t : Tables S) (picture : List S) (marks counts : List ℕ) (pixels : ℕ) (none : S) (r : State × List ℕ) →
+    bins_of shape ≤ length t.counts → pixels ≡ pixels_of shape → none ≡ K.zero →
+    picture ≡ filled pixels (λ _. none) t.picture → marks ≡ filled pixels (λ _. 0) t.marks → counts ≡ counts_after shape t.counts →
+    r ≡ singles_queued (bins_of shape) (bins_of shape) counts (unpeeled shape, t.queue) →
+    world r.0 picture marks t.sums counts r.1 ≡ peel_seal K (incidence shape) (world_of blank t)
 unfolding peel_seal zeroed
-begins K shape s sums picture picture' marks marks' counts counts' queue pixels T none r e₁ e₂ e₃ e₄ e₅ e₆ e₇ =
-    ap (λ z. world z.0 picture' marks' sums counts' z.1) e₇
-    ∙ queues T picture' marks' sums counts' (record { head = 0; waiting = 0; out = 0; left = pixels; settled = 0 }) queue T
-    ∙ (λ j. queue_singles (e₂ j) (e₂ j) (world (record { head = 0; waiting = 0; out = 0; left = e₁ j; settled = 0 })
-    ((e₄ ∙ ap₂ (λ n z. filled n (λ _. z) picture) e₁ e₃) j) ((e₅ ∙ ap (λ n. filled n (λ _. 0) marks) e₁) j) sums (e₆ j) queue))
+begins K shape t picture marks counts pixels none r long e₁ e₂ e₃ e₄ e₅ e₆ =
+    ap (λ z. world z.0 picture marks t.sums counts z.1) e₆
+    ∙ queues (bins_of shape) picture marks t.sums counts (unpeeled shape) t.queue (bins_of shape)
+    ∙ (λ j. queue_singles (bins_of shape) (bins_of shape) (world (unpeeled shape)
+    ((e₃ ∙ ap₂ (λ n z. filled n (λ _. z) t.picture) e₁ e₂) j) ((e₄ ∙ ap (λ n. filled n (λ _. 0) t.marks) e₁) j) t.sums
+    ((e₅ ∙ counted_is shape t.counts long) j) t.queue))
 
 -- The outcome, by the checks in their order ---------------------------------------------------------------------------
 
-module _ {S : Type 0} (K : Operations S) (shape : Shape) (n : ℕ) (t : Tables S) (k : ℕ) (is : k ≡ short_of shape t) where
+module _ {S : Type 0} (K : Operations S) (shape : Shape) (n : ℕ) (t : Tables S) where
   -- the outcome where no table is too short
   long : Outcome S
   long =
@@ -84,16 +81,16 @@ module _ {S : Type 0} (K : Operations S) (shape : Shape) (n : ℕ) (t : Tables S
       (cond (not (criterion shape)) (refuse (loading n) (with_ghost K shape t) (refusal 9 (C shape) (R shape) 0))
       (peels_on (peel_seal K (incidence shape) (world_of blank t)) done))
 
-  seal_is : checked k (loading n) t long ≡ seal K shape n t
-  unfolding seal short long
-  seal_is = ap (λ m. checked m (loading n) t long) is
+  seal_is : checked (short shape t) (loading n) t long ≡ seal K shape n t
+  unfolding seal long
+  seal_is = refl
 
-  pub seal_short : 0 < k → refuse (loading n) t (refusal 5 k 0 0) ≡ seal K shape n t
-  seal_short l = sym (checked_short k (loading n) t long l) ∙ seal_is
+  pub seal_short : (r : Refusal) → Some r ≡ short_refusal (short shape t) → refuse (loading n) t r ≡ seal K shape n t
+  seal_short r e = checked_short (short shape t) (loading n) t long r e ∙ seal_is
 
-  module _ (room : k ≡ 0) where
+  module _ (room : None ≡ short_refusal (short shape t)) where
     seal_long : long ≡ seal K shape n t
-    seal_long = sym (checked_long k (loading n) t long (omega arith)) ∙ seal_is
+    seal_long = checked_long (short shape t) (loading n) t long room ∙ seal_is
 
     pub seal_early : (places : ℕ) → places ≡ length shape.records → n < places → refuse (loading n) t (refusal 8 (places - n) 0 0) ≡ seal K shape n t
     unfolding long

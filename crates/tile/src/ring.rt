@@ -23,7 +23,8 @@ fn wrapped(n: usize, bins: usize) -> usize
     }
 }
 
-// Appends a position behind those that wait, unless all positions wait.
+// Appends a position behind those that wait, unless all positions wait. (A struct for the ring would be shorter, but what is
+// written through one that is made of lent tables is not known afterwards.)
 pub(crate) fn append(state: &mut State, queue: &mut [u16], bins: usize, at: usize)
     requires { (1 ≤ bins) × ((bins ≤ length queue.old) × (at < 65536)) }
     ensures state { state.new ≡ appended bins state.old }

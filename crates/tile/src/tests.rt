@@ -44,11 +44,11 @@ fn peel(
     queue: &mut [u16],
     grants: &mut [u16],
 ) -> Result<Peeling, Fail> {
-    for i in 0..grants.len() {
+    for granted in grants.iter_mut() {
         match tile.take(plan, queue) {
             Err(refused) => return Ok(refused.back),
             Ok((next, grant)) => {
-                grants[i] = grant.position;
+                *granted = grant.position;
                 match next.settle(grant, plan, picture, marks, sums, counts, queue) {
                     Ok((after, _)) => tile = after,
                     Err(refused) => {
