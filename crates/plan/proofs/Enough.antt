@@ -65,6 +65,6 @@ module _ (s : Shape) where
 -- Each whole place goes aside by less than the columns of the tile.
 pub place_narrow :
     (plan : Plan) (xs : List Place) (i : ℕ) → xs ≡ places_of plan → i < length xs → whole (record_of (place_at xs i)) ≡ true
-    → (criterion_of (shape plan)).enough ≡ false → (place_at xs i).slope < plan.columns
+    → (criterion_of (shape plan)).enough ≡ false → (place_at xs i).slope < plan.size.columns
 place_narrow plan xs i e l w fails =
     omega (arith, size_of (place_at xs i).leftward (place_at xs i).slope, over_whole columns_total xs i l w, over_part columns_total xs i, ap (over columns_total) e, few_columns (shape plan) fails)

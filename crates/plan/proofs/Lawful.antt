@@ -1,6 +1,6 @@
 -- What a lawful verdict says of the directions of a shape.
 use Rattle.std.proofs.Common.{◌≡◌, ℕ, zero, suc, ◌<◌, Bool, true, false, cond, ◌&&◌, List, [], ◌∷◌, map, length, is_some, Some, None, Option, refl, ap, ◌∙◌, arith}
-use Rattle.std.proofs.lemmas.Bool.{true≢false, and_parts, and_from, le-leb}
+use Rattle.std.proofs.lemmas.Bool.{true≢false, and_parts, and_from}
 use Rattle.mojette.specs.declared.direction.Direction.{Direction}
 use Rattle.mojette.specs.declared.direction.Record.{Record}
 use Rattle.mojette.specs.Directions.{lawful, all_lawful, in_order, LawfulDirections}
@@ -55,6 +55,5 @@ module _ (plan : Plan) where
   pub place_lawful : (xs : List Place) (i : ℕ) → xs ≡ places_of plan → i < length xs → lawful (direction_of (place_at xs i)) ≡ true
   place_lawful xs i e l = lawful_at xs i l (ap (λ zs. all_lawful (directions (records_of zs))) e ∙ (lawful_directions (shape plan) plan.lawful).each)
 
-  pub plan_sides : (side_ok plan.columns ≡ true) × (side_ok plan.rows ≡ true)
-  plan_sides =
-      (and_from _ _ (le-leb 1 _ plan.some_columns) (le-leb _ 64 plan.few_columns), and_from _ _ (le-leb 1 _ plan.some_rows) (le-leb _ 64 plan.few_rows))
+  pub plan_sides : (side_ok plan.size.columns ≡ true) × (side_ok plan.size.rows ≡ true)
+  plan_sides = (plan.size.columns_ok, plan.size.rows_ok)

@@ -1,5 +1,5 @@
 -- Places laid out one after another.
-use Rattle.std.proofs.Common.{◌≡◌, ℕ, zero, suc, ◌+◌, ◌-◌, ◌<◌, ◌≤◌, true, false, leb, ◌⊎◌, List, [], ◌∷◌, ◌++◌, length, get_or, take, nat_abs, Some, None, Option, sym, refl, ap, ◌∙◌, subst, inl, inr, add-zero, zero-add, arith}
+use Rattle.std.proofs.Common.{◌≡◌, ℕ, zero, suc, ◌+◌, ◌-◌, ◌<◌, ◌≤◌, true, false, leb, ◌&&◌, ◌⊎◌, List, [], ◌∷◌, ◌++◌, length, get_or, take, nat_abs, Some, None, Option, sym, refl, ap, ◌∙◌, subst, inl, inr, add-zero, zero-add, arith}
 use Rattle.std.proofs.lemmas.Nat.{mul-le}
 use Rattle.std.proofs.lemmas.List.{take_all}
 use Rattle.std.proofs.lemmas.Bool.{cond-true, cond-false, cases_Bool, and_from, and_left, and_right, le-leb, lt-leb}
@@ -7,8 +7,8 @@ use Rattle.mojette.specs.declared.direction.Direction.{Direction}
 use Rattle.mojette.specs.declared.direction.Record.{Record}
 use Rattle.mojette.specs.Bins.{bins, start, all_bins}
 use Rattle.mojette.specs.Directions.{lawful}
-use Rattle.mojette.specs.Meaning.{side_ok, follows, places_verdict, Shape, verdict}
-use Rattle.mojette.specs.Refusals.{refusal}
+use Rattle.mojette.specs.Meaning.{side_ok, sides_verdict, follows, places_verdict, Shape, verdict}
+use Rattle.mojette.specs.Refusals.{Refusal, refusal}
 use Rattle.plan.specs.declared.places.Place.{Place}
 use Rattle.plan.specs.Laid.{laid, direction_of, records_of, place_at, Starts, Sizes}
 use Rattle.plan.specs.Layouts.{laid_out}
@@ -122,10 +122,13 @@ module _ (P Q : ℕ) (es : List Record) where
   abbrev s : Shape
   s = record { P = P; Q = Q; records = es }
 
-  pub wrong_size : (side_ok P ≡ false) ⊎ (side_ok Q ≡ false) → verdict s ≡ Some (refusal 1 0 0 0)
+  pub wrong_size : (r : Refusal) → Some r ≡ sides_verdict P Q → verdict s ≡ Some r
   unfolding verdict
-  wrong_size (inl p) = cond-false _ _ _ (and_left (side_ok P) (side_ok Q) p)
-  wrong_size (inr q) = cond-false _ _ _ (and_right (side_ok P) (side_ok Q) q)
+  wrong_size r e = go (cases_Bool (side_ok P && side_ok Q))
+    where
+      go : (side_ok P && side_ok Q ≡ true) ⊎ (side_ok P && side_ok Q ≡ false) → verdict s ≡ Some r
+      go (inl right) = absurd (let never : Some r ≡ None = e ∙ cond-true _ _ _ right in cc never)
+      go (inr wrong) = cond-false _ _ _ wrong ∙ sym (cond-false _ _ _ wrong) ∙ sym e
 
   module _ (p : side_ok P ≡ true) (q : side_ok Q ≡ true) where
     pub wrong_number : (length es < 1) ⊎ (16 < length es) → verdict s ≡ Some (refusal 2 0 0 0)

@@ -9,4 +9,4 @@ abbrev pub places_of : Plan → List Place
 places_of x = take x.count x.places
 
 abbrev pub shape : Plan → Shape
-shape x = shape_from x.columns x.rows (places_of x)
+shape x = shape_from x.size.columns x.size.rows (places_of x)

@@ -52,7 +52,7 @@ impl Plan {
         Criterion {
             columns,
             rows,
-            enough: self.columns <= columns || self.rows <= rows,
+            enough: self.size.columns <= columns || self.size.rows <= rows,
         }
     }
 

@@ -4,7 +4,7 @@ ghost use Rattle.plan.specs.Shapes.{shape};
 
 use crate::places::Place;
 use crate::plan::Plan;
-use mojette::MOST_PLACES;
+use mojette::{MOST_PLACES, Size};
 
 impl Plan {
     // One pixel, and the direction (0, 1) whole.
@@ -20,8 +20,10 @@ impl Plan {
             bins: 1,
         };
         Plan {
-            columns: 1,
-            rows: 1,
+            size: Size {
+                columns: 1,
+                rows: 1,
+            },
             places: [place; MOST_PLACES],
             count: 1,
             total: 1,

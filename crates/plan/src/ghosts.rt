@@ -2,7 +2,7 @@
 ghost use Rattle.std.specs.Prelude.{◌≡◌, ◌+◌, ◌-◌, ◌*◌, ◌<◌, ◌≤◌, true, false, length, drop, if◌then◌else◌};
 ghost use Rattle.mojette.specs.Directions.{lawful};
 ghost use Rattle.mojette.specs.Faults.{outcome};
-ghost use Rattle.mojette.specs.Meaning.{side_ok, pixels_of};
+ghost use Rattle.mojette.specs.Meaning.{pixels_of};
 ghost use Rattle.katz.specs.Made.{left as left_of, leftward as leftward_of, start as start_of, step};
 ghost use Rattle.plan.specs.Criteria.{whole_of, criterion_of};
 ghost use Rattle.plan.specs.Laid.{direction_of};
@@ -10,28 +10,24 @@ ghost use Rattle.plan.specs.Pictures.{picture_of};
 ghost use Rattle.plan.specs.Shapes.{shape};
 ghost use Rattle.plan.specs.Showing.{shown, showing, ghosted, HoldsGhost, LeavesGhost};
 
+use crate::clear::clear;
 use crate::criterion::Criterion;
 use crate::lay::cell_of;
 use crate::places::Place;
 use crate::plan::Plan;
-use mojette::{Fault, Table};
+use mojette::{Fault, Size, Table};
 use samples::{Kind, minus};
 
 // Zeros with one spark among them.
-fn write_spark<K: Kind>(columns: usize, rows: usize, at: usize, picture: &mut [K])
-    requires size { (side_ok columns ≡ true) × (side_ok rows ≡ true) }
-    requires room { columns * rows ≤ length picture.old }
-    requires inside { at < columns }
-    ensures shows { picture_of K.Kind columns rows picture.new ≡ start_of K.Kind at }
-    ensures others { drop (columns * rows) picture.new ≡ drop (columns * rows) picture.old }
+fn write_spark<K: Kind>(size: Size, at: usize, picture: &mut [K])
+    requires room { size.columns * size.rows ≤ length picture.old }
+    requires inside { at < size.columns }
+    ensures shows { picture_of K.Kind size.columns size.rows picture.new ≡ start_of K.Kind at }
+    ensures others { drop (size.columns * size.rows) picture.new ≡ drop (size.columns * size.rows) picture.old }
 {
-    for cell in 0..columns * rows {
-        picture[cell] = if cell == at {
-            K::spark_sample()
-        } else {
-            K::zero_sample()
-        };
-    }
+    let cells = &mut picture[..size.pixels()];
+    clear(cells);
+    cells[at] = K::spark_sample();
 }
 
 impl Place {
@@ -44,37 +40,36 @@ impl Place {
 
     // The columns whose pixels take from a pixel inside the tile, from the first to before the last, and how many cells
     // before them that pixel stands.
-    fn span(self, columns: usize) -> (usize, usize, usize)
-        requires columns { (side_ok columns ≡ true) × (self.slope < columns) }
+    fn span(self, size: Size) -> (usize, usize, usize)
+        requires narrow { self.slope < size.columns }
         requires direction { lawful (direction_of self) ≡ true }
         ensures first { result.0 ≡ (if self.leftward then 0 else self.slope) }
-        ensures last { result.1 ≡ (if self.leftward then columns - self.slope else columns) }
-        ensures back { result.2 ≡ (if self.leftward then self.q * columns - self.slope else self.q * columns + self.slope) }
+        ensures last { result.1 ≡ (if self.leftward then size.columns - self.slope else size.columns) }
+        ensures back { result.2 ≡ (if self.leftward then self.q * size.columns - self.slope else self.q * size.columns + self.slope) }
     {
-        let down = self.q * columns;
+        let down = self.q * size.columns;
         if self.leftward {
-            (0, columns - self.slope, down - self.slope)
+            (0, size.columns - self.slope, down - self.slope)
         } else {
-            (self.slope, columns, down + self.slope)
+            (self.slope, size.columns, down + self.slope)
         }
     }
 }
 
-// One step of the ghost in place, from the last cell down: a pixel takes from an earlier cell, which still holds the old sample.
-// Pixels that take from outside the tile stay.
-fn take_off<K: Kind>(columns: usize, rows: usize, place: Place, picture: &mut [K])
-    requires size { (side_ok columns ≡ true) × (side_ok rows ≡ true) }
-    requires room { columns * rows ≤ length picture.old }
+// One step of the ghost in place, from the last cell down: a pixel takes from an earlier cell, which still holds the old sample,
+// so that the loops count columns and rows. Pixels that take from outside the tile stay.
+fn take_off<K: Kind>(size: Size, place: Place, picture: &mut [K])
+    requires room { size.columns * size.rows ≤ length picture.old }
     requires direction { lawful (direction_of place) ≡ true }
-    requires narrow { place.slope < columns }
-    ensures shows { picture_of K.Kind columns rows picture.new ≡ step K.Kind columns rows (direction_of place) (picture_of K.Kind columns rows picture.old) }
-    ensures others { drop (columns * rows) picture.new ≡ drop (columns * rows) picture.old }
+    requires narrow { place.slope < size.columns }
+    ensures shows { picture_of K.Kind size.columns size.rows picture.new ≡ step K.Kind size.columns size.rows (direction_of place) (picture_of K.Kind size.columns size.rows picture.old) }
+    ensures others { drop (size.columns * size.rows) picture.new ≡ drop (size.columns * size.rows) picture.old }
 {
     let q = place.q;
-    let (first, last, back) = place.span(columns);
-    for l in (q..rows).rev() {
+    let (first, last, back) = place.span(size);
+    for l in (q..size.rows).rev() {
         for k in (first..last).rev() {
-            let cell = cell_of(columns, rows, k, l);
+            let cell = cell_of(size, k, l);
             let from = cell - back;
             picture[cell] = minus(picture[cell], picture[from]);
         }
@@ -102,10 +97,10 @@ impl Plan {
         ensures written { picture.new ≡ ghosted K.Kind (shape self.now) picture.old }
         ensures unseen { HoldsGhost K.Kind (shape self.now) picture.new }
     {
-        write_spark(self.columns, self.rows, self.spark_column(), picture);
+        write_spark(self.size, self.spark_column(), picture);
         for place in self.places() {
             if place.is_whole() {
-                take_off(self.columns, self.rows, *place, picture);
+                take_off(self.size, *place, picture);
             }
         }
     }
@@ -129,15 +124,8 @@ impl Plan {
 #[cfg(test)]
 mod tests {
     use super::*;
-    use mojette::{Direction, Record};
+    use mojette::Record;
     use samples::SumWord;
-
-    fn place(p: i32, q: i32, cause: u8) -> Record {
-        Record {
-            direction: Direction { p, q },
-            cause,
-        }
-    }
 
     // A picture of sevens after the call.
     fn shown(records: &[Record]) -> (u16, u16, u16, u16, u16) {
@@ -156,18 +144,22 @@ mod tests {
 
     #[test]
     fn ghosts_of_two_by_two(rt: HostRuntime) {
-        let upright = [place(1, 0, 0), place(0, 1, 0)];
+        let upright = [Record::new(1, 0, 0), Record::new(0, 1, 0)];
         assert_eq!(rt; shown(&upright), (1, 0xffff, 0xffff, 1, 7));
-        assert_eq!(rt; shown(&[place(-1, 1, 0)]), (0, 1, 0xffff, 0, 7));
-        assert_eq!(rt; shown(&[place(0, 1, 3)]), (1, 0, 0, 0, 7));
-        let enough = [place(1, 1, 0), place(0, 1, 4), place(-1, 1, 0)];
+        assert_eq!(rt; shown(&[Record::new(-1, 1, 0)]), (0, 1, 0xffff, 0, 7));
+        assert_eq!(rt; shown(&[Record::new(0, 1, 3)]), (1, 0, 0, 0, 7));
+        let enough = [
+            Record::new(1, 1, 0),
+            Record::new(0, 1, 4),
+            Record::new(-1, 1, 0),
+        ];
         assert_eq!(rt; shown(&enough), (7, 7, 7, 7, 7));
     }
 
     #[test]
     fn a_short_picture_stays(rt: HostRuntime) {
         let mut picture = [SumWord { value: 7 }; 3];
-        if let Ok(plan) = Plan::of(2, 2, &[place(-1, 1, 0)]) {
+        if let Ok(plan) = Plan::of(2, 2, &[Record::new(-1, 1, 0)]) {
             assert!(rt; plan.show_ghost(&mut picture).is_err());
         }
         assert_eq!(rt; (picture[0].value, picture[1].value), (7, 7));

@@ -1,24 +1,14 @@
 // Making a plan of a tile's shape.
-ghost use Rattle.std.specs.Prelude.{◌≡◌, ◌≤◌, true, length, None};
+ghost use Rattle.std.specs.Prelude.{◌≡◌, ◌≤◌, length, None};
 ghost use Rattle.mojette.specs.Faults.{refused};
-ghost use Rattle.mojette.specs.Meaning.{side_ok, places_verdict, follows as follows_of};
+ghost use Rattle.mojette.specs.Meaning.{places_verdict};
 ghost use Rattle.plan.specs.Layouts.{Plans};
 ghost use Rattle.plan.specs.Shapes.{shape};
 
-use crate::lay::{is_side, lay};
+use crate::lay::lay;
 use crate::places::Place;
 use crate::plan::Plan;
-use mojette::{Direction, Fault, MOST_PLACES, Record};
-
-// Whether a direction stands after the one before it, if there is one.
-fn follows(last: Option<Direction>, direction: Direction) -> bool
-    ensures { result ≡ follows_of last direction }
-{
-    match last {
-        None => true,
-        Some(before) => before.is_before(direction),
-    }
-}
+use mojette::{Fault, MOST_PLACES, Record, Size};
 
 // Each direction lawful and after the one before it; else the first place that is not.
 fn check_places(records: &[Record]) -> Result<(), Fault>
@@ -30,7 +20,7 @@ fn check_places(records: &[Record]) -> Result<(), Fault>
         if !direction.is_lawful() {
             return Err(Fault::Unlawful(i));
         }
-        if !follows(last, direction) {
+        if !direction.follows(last) {
             return Err(Fault::Disorder(i));
         }
         last = Some(direction);
@@ -39,11 +29,10 @@ fn check_places(records: &[Record]) -> Result<(), Fault>
 }
 
 // The plan of a lawful shape.
-fn lay_out(columns: usize, rows: usize, records: &[Record]) -> Plan
-    requires size { (side_ok columns ≡ true) × (side_ok rows ≡ true) }
+fn lay_out(size: Size, records: &[Record]) -> Plan
     requires number { (1 ≤ length records.now) × (length records.now ≤ 16) }
     requires places { places_verdict 0 None records.now ≡ None }
-    ensures { shape result ≡ record { P = columns; Q = rows; records = records.now } }
+    ensures { shape result ≡ record { P = size.columns; Q = size.rows; records = records.now } }
 {
     let none = Place {
         slope: 0,
@@ -56,13 +45,12 @@ fn lay_out(columns: usize, rows: usize, records: &[Record]) -> Plan
     let mut places = [none; MOST_PLACES];
     let mut total = 0;
     for (i, entry) in records.iter().enumerate() {
-        let place = lay(columns, rows, *entry, total);
+        let place = lay(size, *entry, total);
         places[i] = place;
         total += place.bins;
     }
     Plan {
-        columns,
-        rows,
+        size,
         places,
         count: records.len(),
         total,
@@ -74,14 +62,12 @@ impl Plan {
     pub fn of(columns: usize, rows: usize, records: &[Record]) -> Result<Plan, Fault>
         ensures { Plans (record { P = columns; Q = rows; records = records.now }) result }
     {
-        if !is_side(columns) || !is_side(rows) {
-            return Err(Fault::Size);
-        }
+        let size = Size::of(columns, rows)?;
         if records.len() < 1 || records.len() > MOST_PLACES {
             return Err(Fault::PlaceCount);
         }
         check_places(records)?;
-        Ok(lay_out(columns, rows, records))
+        Ok(lay_out(size, records))
     }
 }
 
@@ -91,10 +77,7 @@ mod tests {
     use mojette::Refusal;
 
     fn whole(p: i32, q: i32) -> Record {
-        Record {
-            direction: Direction { p, q },
-            cause: 0,
-        }
+        Record::new(p, q, 0)
     }
 
     // The refusal's number and first value; 0 and T where there is a plan.

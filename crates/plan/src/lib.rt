@@ -1,6 +1,7 @@
 // Plans of tiles, the projection of a picture, Katz's criterion and the ghost.
 #![tactic(auto)]
 
+mod clear;
 pub mod criterion;
 pub mod fresh;
 pub mod ghosts;

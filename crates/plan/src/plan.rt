@@ -5,26 +5,21 @@ ghost use Rattle.mojette.specs.Meaning.{verdict};
 ghost use Rattle.plan.specs.Laid.{shape_from, records_of, Starts, Sizes};
 
 use crate::places::Place;
-use mojette::MOST_PLACES;
+use mojette::{MOST_PLACES, Size};
 
-// P columns, Q rows, and the places laid out one after another, of which there are `count`; `total` is T, the number of all
-// bins. It stands for a lawful shape.
+// The size of a tile, and the places laid out one after another, of which there are `count`; `total` is T, the number of all
+// bins. It stands for a lawful shape. A plan is copied and needs no heap, so that the places are an array beside their count.
 #[derive(Clone, Copy)]
 pub struct Plan {
-    pub(crate) columns: usize,
-    pub(crate) rows: usize,
+    pub(crate) size: Size,
     pub(crate) places: [Place; MOST_PLACES],
     pub(crate) count: usize,
     pub(crate) total: usize,
-    ghost lawful: { is_some (verdict (shape_from columns rows (take count places))) ≡ false },
-    ghost starts: { Starts columns rows (take count places) },
-    ghost sizes: { Sizes columns rows (take count places) },
-    ghost full: { total ≡ all_bins columns rows (records_of (take count places)) },
+    ghost lawful: { is_some (verdict (shape_from size.columns size.rows (take count places))) ≡ false },
+    ghost starts: { Starts size.columns size.rows (take count places) },
+    ghost sizes: { Sizes size.columns size.rows (take count places) },
+    ghost full: { total ≡ all_bins size.columns size.rows (records_of (take count places)) },
     // what follows of the numbers, at hand for the code
-    ghost some_columns: { 1 ≤ columns },
-    ghost few_columns: { columns ≤ 64 },
-    ghost some_rows: { 1 ≤ rows },
-    ghost few_rows: { rows ≤ 64 },
     ghost some_places: { 1 ≤ count },
     ghost few_places: { count ≤ 16 },
     ghost some_bins: { 1 ≤ total },

@@ -1,72 +1,50 @@
 // The Mojette projection of a picture along one direction, written once for every kind of sample.
-ghost use Rattle.std.specs.Prelude.{◌≡◌, ℕ, ◌*◌, ◌<◌, ◌≤◌, true, ◌++◌, length, drop, slice_index_or};
+ghost use Rattle.std.specs.Prelude.{◌≡◌, ◌*◌, ◌≤◌, true, ◌++◌, length, drop};
 ghost use Rattle.mojette.specs.Bins.{bins};
 ghost use Rattle.mojette.specs.Directions.{lawful};
 ghost use Rattle.mojette.specs.Faults.{outcome};
-ghost use Rattle.mojette.specs.Meaning.{side_ok};
 ghost use Rattle.mojette.specs.Transform.{projection};
 ghost use Rattle.plan.specs.Laid.{direction_of};
 ghost use Rattle.plan.specs.Projecting.{projected, projecting};
 ghost use Rattle.plan.specs.Sums.{SumUpTo};
 
-use crate::lay::{bin_count, cell_of, is_side, lay};
+use crate::clear::clear;
+use crate::lay::{cell_of, lay};
 use crate::places::Place;
-use mojette::{Direction, Fault, Record, Table};
+use mojette::{Direction, Fault, Record, Size, Table};
 use samples::Kind;
 
-// Zeros in the first n cells.
-fn clear<K: Kind>(n: usize, cells: &mut [K])
-    requires { n ≤ length cells.old }
-    ensures zeros { (b : ℕ) → b < n → slice_index_or cells.new b K.Kind.zero ≡ K.Kind.zero }
-    ensures others { drop n cells.new ≡ drop n cells.old }
-{
-    for i in 0..n {
-        cells[i] = K::zero_sample();
-    }
-}
-
-// Adds each sample of the picture to the sum of its bin, in the order of the cells.
-fn add_up<K: Kind>(columns: usize, rows: usize, place: Place, picture: &[K], sums: &mut [K])
-    requires size { (side_ok columns ≡ true) × (side_ok rows ≡ true) }
+// Adds each sample of the picture to the sum of its bin, in the order of the cells. Column and row give the bin as well as the
+// cell, so that the loops count them.
+fn add_up<K: Kind>(size: Size, place: Place, picture: &[K], sums: &mut [K])
     requires small { (place.slope ≤ 7) × (place.q ≤ 7) }
-    requires room { (columns * rows ≤ length picture.now) × (bins columns rows (direction_of place) ≤ length sums.old) }
-    requires clear { SumUpTo K.Kind columns rows (direction_of place) picture.now 0 sums.old }
-    ensures sums { SumUpTo K.Kind columns rows (direction_of place) picture.now (columns * rows) sums.new }
-    ensures others { drop (bins columns rows (direction_of place)) sums.new ≡ drop (bins columns rows (direction_of place)) sums.old }
+    requires room { (size.columns * size.rows ≤ length picture.now) × (bins size.columns size.rows (direction_of place) ≤ length sums.old) }
+    requires clear { SumUpTo K.Kind size.columns size.rows (direction_of place) picture.now 0 sums.old }
+    ensures sums { SumUpTo K.Kind size.columns size.rows (direction_of place) picture.now (size.columns * size.rows) sums.new }
+    ensures others { drop (bins size.columns size.rows (direction_of place)) sums.new ≡ drop (bins size.columns size.rows (direction_of place)) sums.old }
 {
-    for l in 0..rows {
-        for k in 0..columns {
-            let bin = place.bin_of(columns, rows, k, l);
-            let cell = cell_of(columns, rows, k, l);
+    for l in 0..size.rows {
+        for k in 0..size.columns {
+            let bin = place.bin_of(size, k, l);
+            let cell = cell_of(size, k, l);
             sums[bin] = sums[bin].add(picture[cell]);
         }
     }
 }
 
 // Writes the sums of a lawful direction.
-fn write_sums<K: Kind>(
-    columns: usize,
-    rows: usize,
-    direction: Direction,
-    picture: &[K],
-    sums: &mut [K],
-)
-    requires size { (side_ok columns ≡ true) × (side_ok rows ≡ true) }
+fn write_sums<K: Kind>(size: Size, direction: Direction, picture: &[K], sums: &mut [K])
     requires direction { lawful direction ≡ true }
-    requires room { (columns * rows ≤ length picture.now) × (bins columns rows direction ≤ length sums.old) }
-    ensures { sums.new ≡ projection K.Kind columns rows picture.now direction ++ drop (bins columns rows direction) sums.old }
+    requires room { (size.columns * size.rows ≤ length picture.now) × (bins size.columns size.rows direction ≤ length sums.old) }
+    ensures { sums.new ≡ projection K.Kind size.columns size.rows picture.now direction ++ drop (bins size.columns size.rows direction) sums.old }
 {
-    let place = lay(
-        columns,
-        rows,
-        Record {
-            direction,
-            cause: 0,
-        },
-        0,
-    );
-    clear(place.bins, sums);
-    add_up(columns, rows, place, picture, sums);
+    let entry = Record {
+        direction,
+        cause: 0,
+    };
+    let place = lay(size, entry, 0);
+    clear(&mut sums[..place.bins]);
+    add_up(size, place, picture, sums);
 }
 
 // Writes the sums of one direction, and answers how many bins it has.
@@ -79,20 +57,18 @@ pub fn project<K: Kind>(
 ) -> Result<usize, Fault>
     ensures { projected (outcome result) sums.new ≡ projecting K.Kind columns rows direction picture.now sums.old }
 {
-    if !is_side(columns) || !is_side(rows) {
-        return Err(Fault::Size);
-    }
+    let size = Size::of(columns, rows)?;
     if !direction.is_lawful() {
         return Err(Fault::Unlawful(0));
     }
-    if picture.len() < columns * rows {
+    if picture.len() < size.pixels() {
         return Err(Fault::ShortTable(Table::Picture));
     }
-    let bins = bin_count(columns, rows, direction);
+    let bins = size.bins(direction);
     if sums.len() < bins {
         return Err(Fault::ShortTable(Table::Sums));
     }
-    write_sums(columns, rows, direction, picture, sums);
+    write_sums(size, direction, picture, sums);
     Ok(bins)
 }
 

@@ -5,6 +5,7 @@ ghost use Rattle.plan.specs.Shapes.{shape, places_of};
 
 use crate::places::Place;
 use crate::plan::Plan;
+use mojette::Size;
 
 impl Plan {
     // The places, in order.
@@ -14,16 +15,23 @@ impl Plan {
         &self.places[0..self.count]
     }
 
+    pub fn size(&self) -> Size
+        ensures columns { result.columns ≡ (shape self.now).P }
+        ensures rows { result.rows ≡ (shape self.now).Q }
+    {
+        self.size
+    }
+
     pub fn columns(&self) -> usize
         ensures { result ≡ (shape self.now).P }
     {
-        self.columns
+        self.size.columns
     }
 
     pub fn rows(&self) -> usize
         ensures { result ≡ (shape self.now).Q }
     {
-        self.rows
+        self.size.rows
     }
 
     // N, the number of places.
@@ -37,7 +45,7 @@ impl Plan {
     pub fn pixels(&self) -> usize
         ensures { result ≡ pixels_of (shape self.now) }
     {
-        self.columns * self.rows
+        self.size.pixels()
     }
 
     // T, the number of all bins.

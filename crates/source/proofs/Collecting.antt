@@ -7,8 +7,7 @@ use Rattle.mojette.specs.Faults.{served}
 use Rattle.mojette.specs.Meaning.{Place, Meaning, Shape, shape_of}
 use Rattle.plan.specs.declared.plan.Plan.{Plan}
 use Rattle.plan.specs.Layouts.{Plans}
-use Rattle.source.specs.declared.types.Sizes.{Sizes}
-use Rattle.source.specs.Questions.{asked_sizes, asked_place, no_place}
+use Rattle.source.specs.Questions.{asked_place, no_place}
 use Rattle.source.proofs.Asking.{place_found}
 
 module _ {S : Type 0} (m : Meaning S) (i : ℕ) (records : List Record) where
@@ -24,8 +23,8 @@ module _ {S : Type 0} (m : Meaning S) (i : ℕ) (records : List Record) where
 
   -- all records asked for: what holds of their shape holds of the source's
   pub all_asked :
-      (n : ℕ) (sizes : Sizes) (r : Result Plan Fault) → sizes ≡ asked_sizes m → n ≡ i → length m.places ≤ i → take i records ≡ entries (take i m.places)
-      → Plans (record { P = sizes.columns; Q = sizes.rows; records = take n records }) r → Plans (shape_of m) r
-  all_asked n sizes r same here end so_far plans =
-      let all = ap (λ k. take k records) here ∙ so_far ∙ ap entries (take_all i m.places end) in
-      subst (λ (s : Shape). Plans s r) (λ j. record { P = (same j).columns; Q = (same j).rows; records = all j }) plans
+      (P Q : ℕ) (r : Result Plan Fault) → P ≡ m.P → Q ≡ m.Q → length records ≤ i → length m.places ≤ i → take i records ≡ entries (take i m.places)
+      → Plans (record { P = P; Q = Q; records = records }) r → Plans (shape_of m) r
+  all_asked P Q r columns rows here end so_far plans =
+      let all = sym (take_all i records here) ∙ so_far ∙ ap entries (take_all i m.places end) in
+      subst (λ (s : Shape). Plans s r) (λ j. record { P = columns j; Q = rows j; records = all j }) plans

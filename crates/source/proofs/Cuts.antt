@@ -65,9 +65,9 @@ pub record RunOf {S : Type 0} (P Q : ℕ) (es : List Record) (run : List S) (xs 
 
 pub run_of :
     {S : Type 0} (plan : Plan) (es : List Record) (run : List S) (xs : List Laid) → xs ≡ places_of plan → (shape plan).records ≡ es → length run ≡ bins_of (shape plan)
-    → RunOf plan.columns plan.rows es run xs
+    → RunOf plan.size.columns plan.size.rows es run xs
 run_of plan es run xs is same full =
-    subst (RunOf plan.columns plan.rows es run) (sym is) (record { same = same; starts = plan.starts; sizes = plan.sizes; full = full })
+    subst (RunOf plan.size.columns plan.size.rows es run) (sym is) (record { same = same; starts = plan.starts; sizes = plan.sizes; full = full })
 
 -- place i, and its part of the run
 module _ {S : Type 0} (P Q : ℕ) (es : List Record) (run : List S) (xs : List Laid) (h : RunOf P Q es run xs) (i : ℕ) (inside : i < length xs) where

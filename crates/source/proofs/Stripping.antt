@@ -93,7 +93,7 @@ pub record Known (m : Meaning SumWord) (i P Q : ℕ) (e : Record) : Type 0 where
   pub answer : served e ≡ asked_place m i
 
 pub known :
-    (m : Meaning SumWord) (i P Q : ℕ) (e : Record) (plan : Plan) → Plans (shape_of m) (Ok plan) → P ≡ plan.columns → Q ≡ plan.rows
+    (m : Meaning SumWord) (i P Q : ℕ) (e : Record) (plan : Plan) → Plans (shape_of m) (Ok plan) → P ≡ plan.size.columns → Q ≡ plan.size.rows
     → served e ≡ asked_place m i → Known m i P Q e
 known m i P Q e plan (v, same) p q a = record { lawful_source = v; columns = p ∙ ap (λ s. s.P) same; rows = q ∙ ap (λ s. s.Q) same; answer = a }
 

@@ -3,30 +3,23 @@ ghost use Rattle.mojette.specs.Meaning.{shape_of};
 ghost use Rattle.plan.specs.Layouts.{Plans};
 
 use crate::source::Source;
-use mojette::{Direction, Fault, MOST_PLACES, Record};
+use mojette::{Fault, MOST_PLACES, Record, Size};
 use plan::Plan;
-use plan::lay::is_side;
 
 // The plan of a source, or why the source is not lawful.
 pub fn plan_of<S: Source>(source: &S) -> Result<Plan, Fault>
     ensures { Plans (shape_of (S.meaning source.now)) result }
 {
     let sizes = source.sizes();
+    let size = Size::of(sizes.columns, sizes.rows)?;
     let count = sizes.places;
-    if !is_side(sizes.columns) || !is_side(sizes.rows) {
-        return Err(Fault::Size);
-    }
     if count < 1 || count > MOST_PLACES {
         return Err(Fault::PlaceCount);
     }
-    let none = Record {
-        direction: Direction { p: 0, q: 0 },
-        cause: 0,
-    };
-    let mut records = [none; MOST_PLACES];
-    for i in 0..count {
-        let entry = source.place(i)?;
-        records[i] = entry;
+    let mut records = [Record::new(0, 0, 0); MOST_PLACES];
+    let places = &mut records[..count];
+    for (i, entry) in places.iter_mut().enumerate() {
+        *entry = source.place(i)?;
     }
-    Plan::of(sizes.columns, sizes.rows, &records[0..count])
+    Plan::of(size.columns, size.rows, places)
 }

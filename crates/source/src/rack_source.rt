@@ -35,11 +35,7 @@ impl<'a, K: Kind> Rack<'a, K> {
 fn place_of(records: &[Record], i: usize) -> Result<Record, Fault>
     ensures { outcome result ≡ record_at records.now i }
 {
-    if i < records.len() {
-        Ok(records[i])
-    } else {
-        Err(Fault::NoPlace)
-    }
+    records.get(i).copied().ok_or(Fault::NoPlace)
 }
 
 // Bin b of place i, in the run of all samples.

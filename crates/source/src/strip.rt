@@ -5,13 +5,12 @@ ghost use Rattle.samples.specs.Words.{sum_zero};
 ghost use Rattle.mojette.specs.Bins.{bins as bin_number, whole};
 ghost use Rattle.mojette.specs.Directions.{lawful};
 ghost use Rattle.mojette.specs.Faults.{outcome};
-ghost use Rattle.mojette.specs.Meaning.{side_ok};
 ghost use Rattle.source.specs.Questions.{place_at, bins_at};
 ghost use Rattle.source.specs.Strips.{pixels_in, mean as mean_by, mean_at, stripped, stripping};
 
 use crate::lawful::plan_of;
 use crate::source::Source;
-use mojette::{Direction, Fault, MOST_SIDE, MOST_STEP};
+use mojette::{Direction, Fault, MOST_SIDE, MOST_STEP, Size};
 use plan::project::project;
 use samples::SumWord;
 
@@ -21,21 +20,14 @@ const MOST_PIXELS: usize = MOST_SIDE * MOST_SIDE;
 const MOST_BINS: usize = 2 * (MOST_SIDE - 1) * (MOST_STEP as usize) + 1;
 
 // The number of pixels of each bin, which is the projection of a tile of ones. Answers how many bins there are.
-fn count_pixels(
-    columns: usize,
-    rows: usize,
-    direction: Direction,
-    ones: &[SumWord],
-    counts: &mut [SumWord],
-) -> usize
-    requires size { (side_ok columns ≡ true) × (side_ok rows ≡ true) }
+fn count_pixels(size: Size, direction: Direction, ones: &[SumWord], counts: &mut [SumWord]) -> usize
     requires direction { lawful direction ≡ true }
     requires ones { (c : ℕ) → c < length ones.now → (slice_index_or ones.now c sum_zero).value ≡ 1 }
-    requires room { (columns * rows ≤ length ones.now) × (bin_number columns rows direction ≤ length counts.old) }
-    ensures bins { result ≡ bin_number columns rows direction }
-    ensures counts { (b : ℕ) → b < bin_number columns rows direction → (slice_index_or counts.new b sum_zero).value ≡ pixels_in columns rows direction b }
+    requires room { (size.columns * size.rows ≤ length ones.now) × (bin_number size.columns size.rows direction ≤ length counts.old) }
+    ensures bins { result ≡ bin_number size.columns size.rows direction }
+    ensures counts { (b : ℕ) → b < bin_number size.columns size.rows direction → (slice_index_or counts.new b sum_zero).value ≡ pixels_in size.columns size.rows direction b }
 {
-    let Ok(bins) = project(columns, rows, direction, ones, counts) else {
+    let Ok(bins) = project(size.columns, size.rows, direction, ones, counts) else {
         unreachable()
     };
     bins
@@ -66,12 +58,12 @@ fn write_means<S: Source<Sample = SumWord>>(
     requires room { (bins ≤ length counts.now) × (bins ≤ length out.old) }
     ensures { out.new ≡ map (mean_at (S.meaning source.now) place) (range_with_len 0 bins) ++ drop bins out.old }
 {
-    for b in 0..bins {
+    for (b, cell) in out[..bins].iter_mut().enumerate() {
         let Ok(sum) = source.bin(place, b) else {
             unreachable()
         };
         let pixels = counts[b];
-        out[b] = mean(sum, pixels);
+        *cell = mean(sum, pixels);
     }
 }
 
@@ -90,13 +82,7 @@ pub fn strip<S: Source<Sample = SumWord>>(
     }
     let ones = [SumWord { value: 1 }; MOST_PIXELS];
     let mut counts = [SumWord { value: 0 }; MOST_BINS];
-    let bins = count_pixels(
-        plan.columns(),
-        plan.rows(),
-        record.direction,
-        &ones,
-        &mut counts,
-    );
+    let bins = count_pixels(plan.size(), record.direction, &ones, &mut counts);
     if out.len() < bins {
         return Err(Fault::ShortOutput(bins));
     }

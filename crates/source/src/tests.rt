@@ -6,7 +6,7 @@ use crate::rack::Rack;
 use crate::source::Source;
 use crate::strip::strip;
 use crate::types::Sizes;
-use mojette::{Direction, Fault, Record, Refusal};
+use mojette::{Fault, Record, Refusal};
 use samples::SumWord;
 use std::test::Fail;
 
@@ -14,13 +14,6 @@ use std::test::Fail;
 fn told(fault: Fault) -> (usize, usize) {
     let refusal = Refusal::from(fault);
     (refusal.number, refusal.first)
-}
-
-fn record(p: i32, q: i32, cause: u8) -> Record {
-    Record {
-        direction: Direction { p, q },
-        cause,
-    }
 }
 
 // 0 and the number of places where there is a rack.
@@ -33,9 +26,13 @@ fn made<'a>(side: usize, records: &'a [Record], run: &'a [SumWord]) -> (usize, u
 
 #[test]
 fn racks_at_the_bounds(rt: HostRuntime) {
-    let good = [record(1, 0, 0), record(1, 1, 7), record(0, 1, 0)];
-    let unlawful = [record(1, 0, 0), record(2, 2, 0)];
-    let disorder = [record(0, 1, 0), record(1, 1, 0)];
+    let good = [
+        Record::new(1, 0, 0),
+        Record::new(1, 1, 7),
+        Record::new(0, 1, 0),
+    ];
+    let unlawful = [Record::new(1, 0, 0), Record::new(2, 2, 0)];
+    let disorder = [Record::new(0, 1, 0), Record::new(1, 1, 0)];
     let run = [SumWord { value: 0 }; 256];
     assert_eq!(rt; made(64, &good, &run[0..254]), (19, 255));
     assert_eq!(rt; made(64, &good, &run[0..255]), (0, 3));
@@ -57,7 +54,11 @@ fn asked(rack: &Rack<SumWord>, i: usize, b: usize) -> (usize, usize) {
 
 #[test]
 fn questions_to_a_rack(rt: HostRuntime) -> Result<(), Fail> {
-    let records = [record(1, 1, 0), record(0, 1, 4), record(-1, 1, 0)];
+    let records = [
+        Record::new(1, 1, 0),
+        Record::new(0, 1, 4),
+        Record::new(-1, 1, 0),
+    ];
     let mut run = [SumWord { value: 5 }; 8];
     run[7] = SumWord { value: 1 };
     let rack = Rack::new(2, 2, &records, &run).ok().ok_or("refused")?;
@@ -89,7 +90,11 @@ fn cells(rack: &Rack<SumWord>, place: usize) -> ((usize, usize), [u16; 7]) {
 // Bins 1 and 4 of (3, 2) are empty, bin 1 of (1, 1) has two pixels.
 #[test]
 fn means_and_empty_bins(rt: HostRuntime) -> Result<(), Fail> {
-    let records = [record(3, 2, 0), record(1, 1, 0), record(0, 1, 9)];
+    let records = [
+        Record::new(3, 2, 0),
+        Record::new(1, 1, 0),
+        Record::new(0, 1, 9),
+    ];
     let run = [SumWord { value: 7 }; 11];
     let rack = Rack::new(2, 2, &records, &run).ok().ok_or("refused")?;
     assert_eq!(rt; cells(&rack, 0), ((0, 6), [7, 0, 7, 7, 0, 7, 1]));

@@ -80,7 +80,7 @@ module _ {S : Type 0} (shape : Shape) (m : Meaning S) (n : ℕ) where
 
 -- what the code that compares place i finds, where the sizes are the same
 module _ {S : Type 0} (plan : Plan) (m : Meaning S) (i : ℕ) (ys : List Place) (e : ys ≡ places_of plan) (l : i < length (places_of plan))
-    (P : m.P ≡ plan.columns) (Q : m.Q ≡ plan.rows) (N : length m.places ≡ length ys) where
+    (P : m.P ≡ plan.size.columns) (Q : m.Q ≡ plan.size.rows) (N : length m.places ≡ length ys) where
   same_there : (entry : Record) → entry ≡ (place_at m i).entry → (r : Bool) → r ≡ same_record (record_of (nth ys i)) entry → r ≡ fits (shape plan) m i
   same_there entry same r is =
       is ∙ ap₂ same_record (ap (λ zs. record_of (nth zs i)) e ∙ sym (record_at (places_of plan) i l)) same
@@ -94,15 +94,15 @@ module _ {S : Type 0} (plan : Plan) (m : Meaning S) (i : ℕ) (ys : List Place) 
 -- what the code that writes place i of a source that fits needs of it
 pub record FitsAt {S : Type 0} (plan : Plan) (m : Meaning S) (i : ℕ) (x : Place) : Type 0 where
   pub known : i < length m.places
-  pub size : x.bins ≡ bins plan.columns plan.rows (place_at m i).entry.direction
+  pub size : x.bins ≡ bins plan.size.columns plan.size.rows (place_at m i).entry.direction
   pub size_there : x.bins ≡ bins_at m i
 
 pub fits_at : {S : Type 0} (plan : Plan) (m : Meaning S) (i : ℕ) (ys : List Place) → Turn plan ys i → true ≡ fits (shape plan) m i → FitsAt plan m i (nth ys i)
 fits_at plan m i ys t e =
     let f = fitting (shape plan) m i (sym e) in
-    let here : (nth ys i).bins ≡ bins plan.columns plan.rows (place_at m i).entry.direction =
+    let here : (nth ys i).bins ≡ bins plan.size.columns plan.size.rows (place_at m i).entry.direction =
     ap (λ x. x.bins) t.same ∙ bins_are plan i t.known
-    ∙ ap (bins plan.columns plan.rows) (ap (λ x. x.direction) (sym (record_at (places_of plan) i t.known)) ∙ f.direction) in
+    ∙ ap (bins plan.size.columns plan.size.rows) (ap (λ x. x.direction) (sym (record_at (places_of plan) i t.known)) ∙ f.direction) in
     record {
       known = omega (arith, t.known, f.number, length-map (places_of plan) record_of);
       size = here;

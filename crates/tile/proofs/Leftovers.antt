@@ -77,10 +77,10 @@ module _ {S : Type 0} (K : Operations S) (plan : Plan) (s : State) (t : Tables S
         finish_left i b stands =
             let x = first_left_over K (bins_of (shape plan)) t.sums in
             let es = records_of (places_of plan) in
-            let place : i ≡ place_at plan.columns plan.rows es x =
-            sym (ap (place_at plan.columns plan.rows es) stands.position ∙ place_is plan i stands.known b stands.inside) in
-            let bin : b ≡ bin_at plan.columns plan.rows es x =
-            sym (ap (bin_at plan.columns plan.rows es) stands.position ∙ bin_is plan i stands.known b stands.inside) in
+            let place : i ≡ place_at plan.size.columns plan.size.rows es x =
+            sym (ap (place_at plan.size.columns plan.size.rows es) stands.position ∙ place_is plan i stands.known b stands.inside) in
+            let bin : b ≡ bin_at plan.size.columns plan.size.rows es x =
+            sym (ap (bin_at plan.size.columns plan.size.rows es) stands.position ∙ bin_is plan i stands.known b stands.inside) in
             let l : x < bins_of (shape plan) = omega (arith, stands.position, stands.inside, ends_inside plan i stands.known, plan.full) in
             ap₂ (λ m n. refuse (peeling s) t (refusal 15 m n 0)) place bin
             ∙ long (left_over x)

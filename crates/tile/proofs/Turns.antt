@@ -48,7 +48,7 @@ module _ {S : Type 0} (K : Operations S) (plan : Plan) (c : ℕ) (v : S) (w : Wo
       (λ b low high.
       let here : (place_at (places_of plan) i).start + (b - starts plan i) ≡ b = omega (arith, start_is plan i l) in
       ap ((incidence (shape plan)).lies c) (sym here) ∙ lies_is plan i l (b - starts plan i) (omega arith) c
-      ∙ ap (λ t. t && in_bin plan.columns plan.rows (direction_of (place_at (places_of plan) i)) c (b - starts plan i)) (ne_eqb _ 0 ne)))
+      ∙ ap (λ t. t && in_bin plan.size.columns plan.size.rows (direction_of (place_at (places_of plan) i)) c (b - starts plan i)) (ne_eqb _ 0 ne)))
 
   -- from the world u before the turn to the world after it
   module _ (u after : World S) (so_far : u ≡ off (starts plan i)) where
@@ -65,7 +65,7 @@ pub new_sum : {S : Type 0} (K : Operations S) (sums : List S) (at : ℕ) (v x r 
 new_sum K sums at v x r l e = e ∙ ap (λ y. K.plus y (K.inverse v)) (get_or_default sums at x K.zero l)
 
 -- where the code finds the bin of a pixel at a turn
-pub lies_here : (plan : Plan) (ys : List Place) (i : ℕ) (x : Pixel) (at P Q : ℕ) → Turn plan ys i → P ≡ plan.columns → Q ≡ plan.rows →
-    OfTile plan.columns plan.rows x → LiesWherever P Q (place_at ys i) x at → Lies plan i x.cell at
+pub lies_here : (plan : Plan) (ys : List Place) (i : ℕ) (x : Pixel) (at P Q : ℕ) → Turn plan ys i → P ≡ plan.size.columns → Q ≡ plan.size.rows →
+    OfTile plan.size.columns plan.size.rows x → LiesWherever P Q (place_at ys i) x at → Lies plan i x.cell at
 lies_here plan ys i x at P Q t e f on lies =
     lies plan (sym e) (sym f) i t.known (sym t.same) (subst₂ (λ m n. OfTile m n x) (sym e) (sym f) on)

@@ -60,24 +60,24 @@ module _ (plan : Plan) (marks : List ℕ) (at i b : ℕ) (t : Stands plan at i b
   abbrev own : Place
   own = nth (places_of plan) i
 
-  there : lone (shape plan) marks at ≡ alone plan.columns plan.rows (missing_at (shape plan) marks at)
+  there : lone (shape plan) marks at ≡ alone plan.size.columns plan.size.rows (missing_at (shape plan) marks at)
   there = sym (lone_there (shape plan) at marks (omega (arith, t.position, t.inside, ends_inside plan i t.known, plan.full)) long)
 
-  lies : (c : ℕ) → (incidence (shape plan)).lies c at ≡ (whole (record_of own) && in_bin plan.columns plan.rows (direction_of own) c b)
+  lies : (c : ℕ) → (incidence (shape plan)).lies c at ≡ (whole (record_of own) && in_bin plan.size.columns plan.size.rows (direction_of own) c b)
   lies c = ap ((incidence (shape plan)).lies c) t.position ∙ lies_is plan i t.known b t.inside c
 
   -- what the code holds of the place
   module _ (x : Place) (place : x ≡ own) where
     pub lone_in_whole :
-        (P Q : ℕ) (r : Option Pixel) → P ≡ plan.columns → Q ≡ plan.rows → x.cause ≡ 0 → r ≡ alone P Q (miss P Q x b marks) → r ≡ lone (shape plan) marks at
+        (P Q : ℕ) (r : Option Pixel) → P ≡ plan.size.columns → Q ≡ plan.size.rows → x.cause ≡ 0 → r ≡ alone P Q (miss P Q x b marks) → r ≡ lone (shape plan) marks at
     lone_in_whole P Q r columns rows e is =
         is ∙ (λ j. alone (columns j) (rows j) (miss (columns j) (rows j) (place j) b marks))
-        ∙ sym (there ∙ alone_same plan.columns plan.rows _ _ (λ c l.
+        ∙ sym (there ∙ alone_same plan.size.columns plan.size.rows _ _ (λ c l.
         ap (λ t. t && eqb (get_or marks c 0) 0)
-        (lies c ∙ ap (λ t. t && in_bin plan.columns plan.rows (direction_of own) c b) (eq-eqb _ 0 (sym (ap (λ z. z.cause) place) ∙ e)))))
+        (lies c ∙ ap (λ t. t && in_bin plan.size.columns plan.size.rows (direction_of own) c b) (eq-eqb _ 0 (sym (ap (λ z. z.cause) place) ∙ e)))))
 
     pub none_in_lost : (x.cause ≡ 0 → ⊥) → None ≡ lone (shape plan) marks at
     none_in_lost ne =
         lone_lost (shape plan) at marks (λ c.
-        lies c ∙ ap (λ t. t && in_bin plan.columns plan.rows (direction_of own) c b) (ne_eqb _ 0 (λ e. ne (ap (λ z. z.cause) place ∙ e))))
+        lies c ∙ ap (λ t. t && in_bin plan.size.columns plan.size.rows (direction_of own) c b) (ne_eqb _ 0 (λ e. ne (ap (λ z. z.cause) place ∙ e))))
         ∙ sym there

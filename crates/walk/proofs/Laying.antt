@@ -59,10 +59,10 @@ module _ (plan : Plan) (i : ℕ) (l : i < length (places_of plan)) where
   x = nth (places_of plan) i
 
   abbrev P : ℕ
-  P = plan.columns
+  P = plan.size.columns
 
   abbrev Q : ℕ
-  Q = plan.rows
+  Q = plan.size.rows
 
   abbrev es : List Record
   es = records_of (places_of plan)
@@ -78,10 +78,10 @@ module _ (plan : Plan) (i : ℕ) (l : i < length (places_of plan)) where
 
   pub on_tile : (b : ℕ) → b < x.bins → OnTile P Q x.q x.slope b
   on_tile b inside = record {
-    some_columns = plan.some_columns;
-    few_columns = plan.few_columns;
-    some_rows = plan.some_rows;
-    few_rows = plan.few_rows;
+    some_columns = plan.size.some_columns;
+    few_columns = plan.size.few_columns;
+    some_rows = plan.size.some_rows;
+    few_rows = plan.size.few_rows;
     q_most = (steps_most (direction_of x) law).1;
     s_most = subst (λ n. n ≤ 7) slope (steps_most (direction_of x) law).0;
     steps = some_step x.q x.leftward x.slope (lawful_is (direction_of x) law).level;
@@ -128,17 +128,17 @@ module _ (plan : Plan) (i : ℕ) (l : i < length (places_of plan)) where
 
 -- where the places end
 pub all_starts : (plan : Plan) (i : ℕ) → i ≤ length (places_of plan) → length (places_of plan) ≤ i →
-    start plan.columns plan.rows (records_of (places_of plan)) i ≡ bins_of (shape plan)
+    start plan.size.columns plan.size.rows (records_of (places_of plan)) i ≡ bins_of (shape plan)
 all_starts plan i l l' =
     let e : i ≡ length (records_of (places_of plan)) = let f = length-map (places_of plan) record_of in omega arith in
-    ap (start plan.columns plan.rows (records_of (places_of plan))) e ∙ last_start plan.columns plan.rows (records_of (places_of plan))
+    ap (start plan.size.columns plan.size.rows (records_of (places_of plan))) e ∙ last_start plan.size.columns plan.size.rows (records_of (places_of plan))
 
 -- What a turn at place i of the places ys knows, where ys are the plan's own.
 pub record Turn (plan : Plan) (ys : List Place) (i : ℕ) : Type 0 where
   pub known : i < length (places_of plan)
   pub same : nth ys i ≡ nth (places_of plan) i
-  pub starts : (nth ys i).start ≡ start plan.columns plan.rows (records_of (places_of plan)) i
-  pub next : start plan.columns plan.rows (records_of (places_of plan)) (i + 1) ≡ (nth ys i).start + (nth ys i).bins
+  pub starts : (nth ys i).start ≡ start plan.size.columns plan.size.rows (records_of (places_of plan)) i
+  pub next : start plan.size.columns plan.size.rows (records_of (places_of plan)) (i + 1) ≡ (nth ys i).start + (nth ys i).bins
   pub inside : (nth ys i).start + (nth ys i).bins ≤ plan.total
 
 pub turn : (plan : Plan) (ys : List Place) (i : ℕ) → ys ≡ places_of plan → i < length ys → Turn plan ys i

@@ -14,15 +14,15 @@ use Rattle.walk.specs.Finding.{OfTile}
 use Rattle.walk.specs.Lying.{Lies, LiesWherever}
 use Rattle.walk.proofs.Laying.{bins_are, start_is, next_is, ends_inside, lies_is}
 
-module _ (plan : Plan) (i : ℕ) (l : i < length (places_of plan)) (pixel : Pixel) (of : OfTile plan.columns plan.rows pixel) where
+module _ (plan : Plan) (i : ℕ) (l : i < length (places_of plan)) (pixel : Pixel) (of : OfTile plan.size.columns plan.size.rows pixel) where
   abbrev x : Place
   x = nth (places_of plan) i
 
   abbrev P : ℕ
-  P = plan.columns
+  P = plan.size.columns
 
   abbrev Q : ℕ
-  Q = plan.rows
+  Q = plan.size.rows
 
   abbrev b : ℕ
   b = bin_number P Q x pixel.column pixel.row
@@ -61,5 +61,5 @@ module _ (plan : Plan) (i : ℕ) (l : i < length (places_of plan)) (pixel : Pixe
 
 pub lies_wherever : (P Q : ℕ) (place : Place) (pixel : Pixel) (at : ℕ) → at ≡ (place.start + bin_number P Q place pixel.column pixel.row) % 2 ^ 64 → LiesWherever P Q place pixel at
 lies_wherever P Q place pixel at is plan columns rows i l same of =
-    let own : OfTile plan.columns plan.rows pixel = subst (λ n. OfTile n plan.rows pixel) (sym columns) (subst (λ n. OfTile P n pixel) (sym rows) of) in
+    let own : OfTile plan.size.columns plan.size.rows pixel = subst (λ n. OfTile n plan.size.rows pixel) (sym columns) (subst (λ n. OfTile P n pixel) (sym rows) of) in
     subst (Lies plan i pixel.cell) ((λ j. ((same j).start + bin_number (columns j) (rows j) (same j) pixel.column pixel.row) % 2 ^ 64) ∙ sym is) (lies_modulo plan i l pixel own)

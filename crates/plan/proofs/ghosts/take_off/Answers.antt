@@ -3,15 +3,15 @@ use Rattle.plan.proofs.Taking.{step_of, none_done, row_begins, row_ends, rows_en
 use Rattle.plan.proofs.ghosts.take_off.Goals as goal
 
 pub loop-l-init : goal.loop-l-init
-loop-l-init g c = λ f s. none_done g.K.Kind c.args.columns c.args.rows f c.args.picture.now _ (omega arith)
+loop-l-init g c = λ f s. none_done g.K.Kind c.args.size.columns c.args.size.rows f c.args.picture.now _ (omega arith)
 
 pub loop-k-init : goal.loop-k-init
 loop-k-init g c = λ f old s walk. walk
 
 pub loop-l-preserved : goal.loop-l-preserved
 loop-l-preserved g c =
-    let P = c.args.columns in
-    let Q = c.args.rows in
+    let P = c.args.size.columns in
+    let Q = c.args.size.rows in
     let l = c.loop-l.l - 1 in
     let old = c.args.picture.now in
     let q = c.args.place.q in
@@ -25,22 +25,22 @@ pub overflow_sub-from : goal.overflow_sub-from
 overflow_sub-from g c =
     let span = c.span-first.result in
     let e = c.span-first.ensures in
-    let s = step_of g.K.Kind c.args.columns c.args.rows c.args.place span.0 span.1 span.2 c.args.picture.now e.first e.last e.back c.requires.direction c.requires.narrow in
+    let s = step_of g.K.Kind c.args.size.columns c.args.size.rows c.args.place span.0 span.1 span.2 c.args.picture.now e.first e.last e.back c.requires.direction c.requires.narrow in
     omega (arith, s.earlier (c.loop-k.k - 1) (c.loop-l.l - 1) (omega arith) (omega arith), c.cell_of-cell.ensures.value)
 
 pub loop-k-preserved : goal.loop-k-preserved
 loop-k-preserved g c =
     let span = c.span-first.result in
     λ f old s walk.
-    pixel_taken g.K.Kind c.args.columns c.args.rows f old c.loop-k.picture c.args.place.q span.0 span.1 span.2 s
+    pixel_taken g.K.Kind c.args.size.columns c.args.size.rows f old c.loop-k.picture c.args.place.q span.0 span.1 span.2 s
     (c.loop-k.k - 1) (c.loop-l.l - 1) c.loop-k.k c.cell_of-cell.result _ _ _ (omega arith) (omega arith) (omega arith) (omega arith) (omega arith) (omega arith)
     c.cell_of-cell.ensures.value c.index-picture-cell.is c.index-picture-from.is (search rules) (c.loop-k.invariant f old s walk)
 
 pub returns : goal.returns
 returns g c =
     let K = g.K.Kind in
-    let P = c.args.columns in
-    let Q = c.args.rows in
+    let P = c.args.size.columns in
+    let Q = c.args.size.rows in
     let x = c.args.place in
     let old = c.args.picture.now in
     let span = c.span-first.result in

@@ -5,22 +5,18 @@ use Rattle.mojette.specs.Bins.{bins, all_bins}
 use Rattle.mojette.specs.Meaning.{verdict}
 use Rattle.plan.specs.Laid.{laid, shape_from}
 use Rattle.plan.specs.Layouts.{laid_out}
-use Rattle.plan.proofs.Cells.{side_most}
 use Rattle.plan.proofs.Layouts.{lawful_at, bins_more, out_more, few_bins, stands_at_end, by_places}
 use Rattle.plan.proofs.Verdicts.{no_record}
 use Rattle.plan.proofs.layout.lay_out.Goals as goal
 
-pub lay-place-requires : goal.lay-place-requires
-lay-place-requires c = record { size = c.requires.size; direction = lawful_at 0 _ c.args.records.now c.requires.places c.loop-i.i c.loop-i-test.true }
-
 -- The bins of the place that is laid.
-size_is : (c : goal.After-struct_known-1) → c.lay-place.result.bins ≡ bins c.args.columns c.args.rows (get_or c.args.records.now c.loop-i.i no_record).direction
+size_is : (c : goal.After-struct_known-1) → c.lay-place.result.bins ≡ bins c.args.size.columns c.args.size.rows (get_or c.args.records.now c.loop-i.i no_record).direction
 size_is c = ap (λ x. x.bins) c.lay-place.ensures
 
 size_few : (c : goal.After-struct_known-1) → c.lay-place.result.bins ≤ 883
 size_few c =
     subst (λ n. n ≤ 883) (sym (size_is c))
-    (few_bins c.args.columns c.args.rows c.requires.size.0 c.requires.size.1 (get_or c.args.records.now c.loop-i.i no_record).direction (lawful_at 0 _ c.args.records.now c.requires.places c.loop-i.i c.loop-i-test.true))
+    (few_bins c.args.size.columns c.args.size.rows c.args.size.columns_ok c.args.size.rows_ok (get_or c.args.records.now c.loop-i.i no_record).direction (lawful_at 0 _ c.args.records.now c.requires.places c.loop-i.i c.loop-i-test.true))
 
 pub overflow_add-total : goal.overflow_add-total
 overflow_add-total c = let few = size_few c in let v = c.loop-i.invariant in omega (arith, c.requires.number.1)
@@ -30,8 +26,8 @@ loop-i-init c = (refl, refl, lit≤ tt, lit≤ tt, refl)
 
 pub loop-i-preserved : goal.loop-i-preserved
 loop-i-preserved c =
-    let P = c.args.columns in
-    let Q = c.args.rows in
+    let P = c.args.size.columns in
+    let Q = c.args.size.rows in
     let es = c.args.records.now in
     let i = c.loop-i.i in
     let e : Record = get_or es i no_record in
@@ -50,17 +46,15 @@ loop-i-preserved c =
 
 pub invariant_of-result : goal.invariant_of-result
 invariant_of-result c =
-    let P = c.args.columns in
-    let Q = c.args.rows in
+    let P = c.args.size.columns in
+    let Q = c.args.size.rows in
     let es = c.args.records.now in
     let v = c.loop-i.invariant in
     let end : c.loop-i.i ≡ length es = omega arith in
     let all = stands_at_end P Q c.loop-i.i es c.loop-i.places c.requires.places end v.0 in
     let total : c.loop-i.total ≡ all_bins P Q es = v.1 ∙ ap (all_bins P Q) (ap (λ n. take n es) end ∙ take_all (length es) es (omega arith)) in
     let lawful : is_some (verdict (shape_from P Q (take (length es) c.loop-i.places))) ≡ false =
-    ap (λ xs. is_some (verdict (record { P = P; Q = Q; records = xs }))) all.same ∙ ap is_some (by_places P Q es c.requires.size.0 c.requires.size.1 c.requires.number.0 c.requires.number.1 ∙ c.requires.places) in
-    let a = side_most P c.requires.size.0 in
-    let b = side_most Q c.requires.size.1 in
+    ap (λ xs. is_some (verdict (record { P = P; Q = Q; records = xs }))) all.same ∙ ap is_some (by_places P Q es c.args.size.columns_ok c.args.size.rows_ok c.requires.number.0 c.requires.number.1 ∙ c.requires.places) in
     let some = c.requires.number.0 in
     let few = c.requires.number.1 in
     record {
@@ -68,10 +62,6 @@ invariant_of-result c =
       starts = all.starts;
       sizes = all.sizes;
       full = total ∙ all.full;
-      some_columns = a.0;
-      few_columns = a.1;
-      some_rows = b.0;
-      few_rows = b.1;
       some_places = some;
       few_places = few;
       some_bins = omega arith;
@@ -80,8 +70,8 @@ invariant_of-result c =
 
 pub returns : goal.returns
 returns c =
-    let P = c.args.columns in
-    let Q = c.args.rows in
+    let P = c.args.size.columns in
+    let Q = c.args.size.rows in
     let end : c.loop-i.i ≡ length c.args.records.now = omega arith in
     let all = stands_at_end P Q c.loop-i.i c.args.records.now c.loop-i.places c.requires.places end c.loop-i.invariant.0 in
     λ i. record { P = P; Q = Q; records = all.same i }

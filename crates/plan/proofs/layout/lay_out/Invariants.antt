@@ -5,8 +5,8 @@ use Rattle.plan.proofs.layout.lay_out.Given as goal
 
 abbrev pub invariant-loop-i : goal.invariant-loop-i
 invariant-loop-i l =
-    (take l.i l.places ≡ laid_out l.columns l.rows 0 (take l.i l.records))
-    × (l.total ≡ all_bins l.columns l.rows (take l.i l.records))
+    (take l.i l.places ≡ laid_out l.size.columns l.size.rows 0 (take l.i l.records))
+    × (l.total ≡ all_bins l.size.columns l.size.rows (take l.i l.records))
     × (l.total ≤ l.i * 883)
     × (l.i ≤ l.total)
     × (length l.places ≡ 16)

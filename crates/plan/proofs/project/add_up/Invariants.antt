@@ -6,10 +6,10 @@ use Rattle.plan.proofs.project.add_up.Given as goal
 
 abbrev pub invariant-loop-l : goal.invariant-loop-l
 invariant-loop-l g l =
-    SumUpTo g.K.Kind l.columns l.rows (direction_of l.place) l.picture (l.l * l.columns) l.sums
-    × (drop (bins l.columns l.rows (direction_of l.place)) l.sums ≡ drop (bins l.columns l.rows (direction_of l.place)) l.initial.sums)
+    SumUpTo g.K.Kind l.size.columns l.size.rows (direction_of l.place) l.picture (l.l * l.size.columns) l.sums
+    × (drop (bins l.size.columns l.size.rows (direction_of l.place)) l.sums ≡ drop (bins l.size.columns l.size.rows (direction_of l.place)) l.initial.sums)
 
 abbrev pub invariant-loop-k : goal.invariant-loop-k
 invariant-loop-k g l =
-    SumUpTo g.K.Kind l.columns l.rows (direction_of l.place) l.picture (l.l * l.columns + l.k) l.sums
-    × (drop (bins l.columns l.rows (direction_of l.place)) l.sums ≡ drop (bins l.columns l.rows (direction_of l.place)) l.initial.sums)
+    SumUpTo g.K.Kind l.size.columns l.size.rows (direction_of l.place) l.picture (l.l * l.size.columns + l.k) l.sums
+    × (drop (bins l.size.columns l.size.rows (direction_of l.place)) l.sums ≡ drop (bins l.size.columns l.size.rows (direction_of l.place)) l.initial.sums)

@@ -8,17 +8,17 @@ pub returns-in_err-record : goal.returns-in_err-record
 returns-in_err-record g c =
     let p = err_from_is_err_and c.from_residual.result c.from_residual.ensures.1 in
     rw (p.1, p.2)
-    (no_place_answer g.K.Kind c.args.plan.now.columns c.args.plan.now.rows c.args.records.now c.args.run.now c.args.i c.args.b
+    (no_place_answer g.K.Kind c.args.plan.now.size.columns c.args.plan.now.size.rows c.args.records.now c.args.run.now c.args.i c.args.b
     (refusal_of c.in_err-record.field-0.0) c.in_err-record.ensures)
 
 pub returns-then-record-ne0 : goal.returns-then-record-ne0
 returns-then-record-ne0 g c =
-    lost_answer g.K.Kind c.args.plan.now.columns c.args.plan.now.rows c.args.records.now c.args.run.now c.args.i c.args.b
+    lost_answer g.K.Kind c.args.plan.now.size.columns c.args.plan.now.size.rows c.args.records.now c.args.run.now c.args.i c.args.b
     c.in_ok-record.record c.in_ok-record.ensures c.if-record-ne0.true
 
 pub bounds-places-i : goal.bounds-places-i
 bounds-places-i g c =
-    place_inside g.K.Kind c.args.plan.now.columns c.args.plan.now.rows c.args.records.now c.args.run.now c.args.i c.args.b
+    place_inside g.K.Kind c.args.plan.now.size.columns c.args.plan.now.size.rows c.args.records.now c.args.run.now c.args.i c.args.b
     c.in_ok-record.record c.in_ok-record.ensures c.places.result.now
     (run_of c.args.plan.now c.args.records.now c.args.run.now c.places.result.now c.places.ensures c.requires.same c.requires.full)
 
@@ -27,14 +27,14 @@ offset_bounds-places-i g c = let inside = bounds-places-i g c in search rules
 
 pub returns-then-b-place : goal.returns-then-b-place
 returns-then-b-place g c =
-    no_bin_answer g.K.Kind c.args.plan.now.columns c.args.plan.now.rows c.args.records.now c.args.run.now c.args.i c.args.b
+    no_bin_answer g.K.Kind c.args.plan.now.size.columns c.args.plan.now.size.rows c.args.records.now c.args.run.now c.args.i c.args.b
     c.in_ok-record.record c.in_ok-record.ensures c.places.result.now
     (run_of c.args.plan.now c.args.records.now c.args.run.now c.places.result.now c.places.ensures c.requires.same c.requires.full)
     c.if-record-ne0.false c.if-b-place.true
 
 pub bounds-run-place : goal.bounds-run-place
 bounds-run-place g c =
-    bin_inside g.K.Kind c.args.plan.now.columns c.args.plan.now.rows c.args.records.now c.args.run.now c.args.i c.args.b
+    bin_inside g.K.Kind c.args.plan.now.size.columns c.args.plan.now.size.rows c.args.records.now c.args.run.now c.args.i c.args.b
     c.in_ok-record.record c.in_ok-record.ensures c.places.result.now
     (run_of c.args.plan.now c.args.records.now c.args.run.now c.places.result.now c.places.ensures c.requires.same c.requires.full)
     c.if-b-place.false
@@ -47,7 +47,7 @@ overflow_add-result g c = let inside = bounds-run-place g c in search rules
 
 pub returns : goal.returns
 returns g c =
-    bin_answer g.K.Kind c.args.plan.now.columns c.args.plan.now.rows c.args.records.now c.args.run.now c.args.i c.args.b
+    bin_answer g.K.Kind c.args.plan.now.size.columns c.args.plan.now.size.rows c.args.records.now c.args.run.now c.args.i c.args.b
     c.in_ok-record.record c.in_ok-record.ensures c.places.result.now
     (run_of c.args.plan.now c.args.records.now c.args.run.now c.places.result.now c.places.ensures c.requires.same c.requires.full)
     c.if-record-ne0.false c.if-b-place.false c.index-run-place.result c.index-run-place.is

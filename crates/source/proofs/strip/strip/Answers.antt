@@ -4,7 +4,7 @@ use Rattle.std.proofs.lemmas.Result.{err_from_is_err_and}
 use Rattle.samples.specs.declared.words.SumWord.{SumWord}
 use Rattle.samples.specs.Words.{sum_zero}
 use Rattle.mojette.specs.Faults.{refusal_of}
-use Rattle.source.proofs.Stripping.{unlawful, no_place, lost, known, place_known, whole_known, columns_known, rows_known, direction_known, pixels_few, bins_few, bins_known, counts_known, refused_short, served_all}
+use Rattle.source.proofs.Stripping.{unlawful, no_place, lost, known, place_known, whole_known, direction_known, pixels_few, bins_few, bins_known, counts_known, refused_short, served_all}
 use Rattle.source.proofs.strip.strip.Goals as goal
 
 pub returns-in_err-plan : goal.returns-in_err-plan
@@ -25,10 +25,9 @@ returns-then-record-ne0 g c =
 
 pub count_pixels-bins-requires : goal.count_pixels-bins-requires
 count_pixels-bins-requires g c =
-    let h = known (g.S.Source.meaning c.args.source.now) c.args.place c.columns.result c.rows.result c.in_ok-record.record c.in_ok-plan.plan
-    c.in_ok-plan.ensures c.columns.ensures c.rows.ensures c.in_ok-record.ensures in
+    let h = known (g.S.Source.meaning c.args.source.now) c.args.place c.size.result.columns c.size.result.rows c.in_ok-record.record c.in_ok-plan.plan
+    c.in_ok-plan.ensures c.size.ensures.columns c.size.ensures.rows c.in_ok-record.ensures in
     record {
-      size = (columns_known h, rows_known h);
       direction = direction_known h;
       ones = λ k l. ap (λ (w : SumWord). w.value) (get_or-replicate 4096 k _ sum_zero l);
       room = (pixels_few h, bins_few h);
@@ -36,14 +35,14 @@ count_pixels-bins-requires g c =
 
 pub returns-then-out-bins : goal.returns-then-out-bins
 returns-then-out-bins g c =
-    let h = known (g.S.Source.meaning c.args.source.now) c.args.place c.columns.result c.rows.result c.in_ok-record.record c.in_ok-plan.plan
-    c.in_ok-plan.ensures c.columns.ensures c.rows.ensures c.in_ok-record.ensures in
+    let h = known (g.S.Source.meaning c.args.source.now) c.args.place c.size.result.columns c.size.result.rows c.in_ok-record.record c.in_ok-plan.plan
+    c.in_ok-plan.ensures c.size.ensures.columns c.size.ensures.rows c.in_ok-record.ensures in
     refused_short h c.count_pixels-bins.result c.count_pixels-bins.ensures.bins c.if-record-ne0.false c.args.out.now c.if-out-bins.true
 
 pub write_means-requires : goal.write_means-requires
 write_means-requires g c =
-    let h = known (g.S.Source.meaning c.args.source.now) c.args.place c.columns.result c.rows.result c.in_ok-record.record c.in_ok-plan.plan
-    c.in_ok-plan.ensures c.columns.ensures c.rows.ensures c.in_ok-record.ensures in
+    let h = known (g.S.Source.meaning c.args.source.now) c.args.place c.size.result.columns c.size.result.rows c.in_ok-record.record c.in_ok-plan.plan
+    c.in_ok-plan.ensures c.size.ensures.columns c.size.ensures.rows c.in_ok-record.ensures in
     let n = c.count_pixels-bins.ensures.bins in
     let few = bins_few h in
     record {
@@ -55,7 +54,7 @@ write_means-requires g c =
 
 pub returns : goal.returns
 returns g c =
-    let h = known (g.S.Source.meaning c.args.source.now) c.args.place c.columns.result c.rows.result c.in_ok-record.record c.in_ok-plan.plan
-    c.in_ok-plan.ensures c.columns.ensures c.rows.ensures c.in_ok-record.ensures in
+    let h = known (g.S.Source.meaning c.args.source.now) c.args.place c.size.result.columns c.size.result.rows c.in_ok-record.record c.in_ok-plan.plan
+    c.in_ok-plan.ensures c.size.ensures.columns c.size.ensures.rows c.in_ok-record.ensures in
     served_all h c.count_pixels-bins.result c.count_pixels-bins.ensures.bins c.if-record-ne0.false c.args.out.now c.if-out-bins.false c.write_means.new.out
     c.write_means.ensures

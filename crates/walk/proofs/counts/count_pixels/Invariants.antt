@@ -11,5 +11,5 @@ use Rattle.walk.proofs.counts.count_pixels.Given as goal
 abbrev pub invariant-loop-place : goal.invariant-loop-place
 invariant-loop-place l =
     l.counts
-    ≡ filled (start l.plan.columns l.plan.rows (records_of (places_of l.plan)) l.place-index)
+    ≡ filled (start l.plan.size.columns l.plan.size.rows (records_of (places_of l.plan)) l.place-index)
     (λ x. number (pixels_of (shape l.plan)) (λ c. (incidence (shape l.plan)).lies c x)) l.initial.counts

@@ -31,8 +31,8 @@ returns-then-at-place c =
     record {
       is =
           stands_there (shape plan) at i b (omega (arith, t.inside, plan.full, c.if-at-place.true))
-          (ap (place_at plan.columns plan.rows (records_of (places_of plan))) here ∙ place_is plan i t.known b inside)
-          (ap (bin_at plan.columns plan.rows (records_of (places_of plan))) here ∙ bin_is plan i t.known b inside);
+          (ap (place_at plan.size.columns plan.size.rows (records_of (places_of plan))) here ∙ place_is plan i t.known b inside)
+          (ap (bin_at plan.size.columns plan.size.rows (records_of (places_of plan))) here ∙ bin_is plan i t.known b inside);
       stands = record { known = t.known; inside = inside; position = here };
     }
 

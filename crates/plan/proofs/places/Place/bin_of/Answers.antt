@@ -8,11 +8,11 @@ use Rattle.plan.proofs.places.Place.bin_of.Goals.{then-self, else-self}
 
 pub returns : goal.returns
 returns c =
-    let row : c.if-self.along ≡ turned c.args.self.leftward c.args.rows c.args.l =
+    let row : c.if-self.along ≡ turned c.args.self.leftward c.args.size.rows c.args.l =
     elim c.if-self.branch [ then-self w ↦ w.along-is ∙ sym (cond-true _ _ _ w.if-self.true) | else-self w ↦ w.along-is ∙ sym (cond-false _ _ _ w.if-self.false) ] in
-    let value = ap (λ n. (c.args.columns - 1 - c.args.k) * c.args.self.q + n * c.args.self.slope) row in
+    let value = ap (λ n. (c.args.size.columns - 1 - c.args.k) * c.args.self.q + n * c.args.self.slope) row in
     record {
       value = value;
-      inside = subst (λ n. n < bins c.args.columns c.args.rows (direction_of c.args.self)) (sym value)
-          (bin_inside c.args.columns c.args.rows c.args.self c.args.k c.args.l c.requires.pixel.0 c.requires.pixel.1);
+      inside = subst (λ n. n < bins c.args.size.columns c.args.size.rows (direction_of c.args.self)) (sym value)
+          (bin_inside c.args.size.columns c.args.size.rows c.args.self c.args.k c.args.l c.requires.pixel.0 c.requires.pixel.1);
     }

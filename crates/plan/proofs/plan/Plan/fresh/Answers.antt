@@ -21,18 +21,24 @@ sizes : Sizes 1 1 upright
 sizes zero l = refl
 sizes (suc i) l = absurd (omega arith)
 
-pub invariant_of-result : goal.invariant_of-result
-invariant_of-result c = record {
+pub invariant_of-result-2 : goal.invariant_of-result-2
+invariant_of-result-2 c = record {
   lawful = lawful;
   starts = starts;
   sizes = sizes;
   full = refl;
-  some_columns = lit≤ tt;
-  few_columns = lit≤ tt;
-  some_rows = lit≤ tt;
-  few_rows = lit≤ tt;
   some_places = lit≤ tt;
   few_places = lit≤ tt;
   some_bins = lit≤ tt;
   few_bins = lit< tt;
+}
+
+pub invariant_of-result : goal.invariant_of-result
+invariant_of-result c = record {
+  columns_ok = refl;
+  rows_ok = refl;
+  some_columns = lit≤ tt;
+  few_columns = lit≤ tt;
+  some_rows = lit≤ tt;
+  few_rows = lit≤ tt;
 }

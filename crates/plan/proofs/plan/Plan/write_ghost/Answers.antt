@@ -1,7 +1,7 @@
 use Rattle.std.proofs.Common.{sym, ◌∙◌, arith}
 use Rattle.plan.specs.Shapes.{shape, places_of}
 use Rattle.plan.proofs.Enough.{spark_inside, ghost_stands, place_narrow}
-use Rattle.plan.proofs.Lawful.{place_lawful, plan_sides}
+use Rattle.plan.proofs.Lawful.{place_lawful}
 use Rattle.plan.proofs.Making.{makes_start, makes_whole, makes_lost, makes_end}
 use Rattle.plan.proofs.plan.Plan.write_ghost.Goals as goal
 use Rattle.plan.proofs.plan.Plan.write_ghost.Goals.{then-is_whole, else-is_whole}
@@ -9,12 +9,12 @@ use Rattle.plan.proofs.plan.Plan.write_ghost.Goals.{then-is_whole, else-is_whole
 pub write_spark-requires : goal.write_spark-requires
 write_spark-requires g c =
     let plan = c.args.self.now in
-    record { size = plan_sides plan; room = c.requires.room; inside = omega (arith, spark_inside (shape plan) c.requires.fails, c.spark_column.ensures) }
+    record { room = c.requires.room; inside = omega (arith, spark_inside (shape plan) c.requires.fails, c.spark_column.ensures) }
 
 pub loop-place-init : goal.loop-place-init
 loop-place-init g c =
     let plan = c.args.self.now in
-    makes_start g.K.Kind plan.columns plan.rows c.places-place-items.result.now (places_of plan) c.spark_column.result c.write_spark.new.picture
+    makes_start g.K.Kind plan.size.columns plan.size.rows c.places-place-items.result.now (places_of plan) c.spark_column.result c.write_spark.new.picture
     c.places-place-items.ensures c.spark_column.ensures c.write_spark.ensures.shows
 
 pub take_off-requires : goal.take_off-requires
@@ -25,7 +25,6 @@ take_off-requires g c =
     let e = c.places-place-items.ensures in
     let l = c.loop-place-test.true in
     record {
-      size = plan_sides plan;
       room = omega (arith, c.requires.room);
       direction = place_lawful plan xs i e l;
       narrow = place_narrow plan xs i e l (sym c.is_whole.ensures ∙ c.if-is_whole.true) c.requires.fails;
@@ -39,9 +38,9 @@ loop-place-preserved g c =
     let old = c.loop-place.picture in
     let new = c.if-is_whole.picture in
     elim c.if-is_whole.branch [
-      | then-is_whole w ↦ makes_whole g.K.Kind plan.columns plan.rows xs (places_of plan) c.write_spark.new.picture i c.loop-place-test.true old new c.loop-place.invariant
+      | then-is_whole w ↦ makes_whole g.K.Kind plan.size.columns plan.size.rows xs (places_of plan) c.write_spark.new.picture i c.loop-place-test.true old new c.loop-place.invariant
           w.take_off.new.picture (sym c.is_whole.ensures ∙ w.if-is_whole.true) w.picture-is w.take_off.ensures.shows w.take_off.ensures.others
-      | else-is_whole w ↦ makes_lost g.K.Kind plan.columns plan.rows xs (places_of plan) c.write_spark.new.picture i c.loop-place-test.true old new c.loop-place.invariant
+      | else-is_whole w ↦ makes_lost g.K.Kind plan.size.columns plan.size.rows xs (places_of plan) c.write_spark.new.picture i c.loop-place-test.true old new c.loop-place.invariant
           (sym c.is_whole.ensures ∙ w.if-is_whole.false) w.picture-is
     ]
 
@@ -51,6 +50,6 @@ returns g c =
     let old = c.args.picture.now in
     let new = c.loop-place.picture in
     let written =
-    makes_end g.K.Kind plan.columns plan.rows c.places-place-items.result.now (places_of plan) c.write_spark.new.picture c.loop-place.place-index old new
+    makes_end g.K.Kind plan.size.columns plan.size.rows c.places-place-items.result.now (places_of plan) c.write_spark.new.picture c.loop-place.place-index old new
     c.loop-place-test.false (omega (arith, c.requires.room)) c.write_spark.ensures.others c.loop-place.invariant in
     record { written = written; unseen = ghost_stands (shape plan) g.K.Kind plan.lawful c.requires.fails old new written }

@@ -5,4 +5,4 @@ use Rattle.source.proofs.rack_source.RackSource.place.Goals as goal
 pub returns : goal.returns
 returns g c =
     let s = c.args.self.now in
-    c.place_of.ensures ∙ same_record s.plan.columns s.plan.rows s.records.now s.run.now c.args.i
+    c.place_of.ensures ∙ same_record s.plan.size.columns s.plan.size.rows s.records.now s.run.now c.args.i
