@@ -9,14 +9,13 @@ use tile::{Grant, Loading, Peeling, Refused, Tables};
 
 // Loads every place of the source.
 pub(crate) fn load_all<S: Source>(
-    tile: Loading,
+    mut tile: Loading,
     source: &S,
     plan: &Plan,
     sums: &mut [S::Sample],
 ) -> Result<Loading, Refused<Loading>>
     ensures { LoadsAll S.Sample.Kind (S.meaning source.now) plan.now tile sums.old result sums.new }
 {
-    let mut tile = tile;
     for _ in 0..plan.count() {
         tile = tile.load(source, plan, sums)?;
     }
@@ -25,21 +24,20 @@ pub(crate) fn load_all<S: Source>(
 
 // Takes and settles until nothing waits; one turn more than there are bins is never needed.
 pub(crate) fn peel_all<K: Kind>(
-    tile: Peeling,
+    mut tile: Peeling,
     plan: &Plan,
     tables: &mut Tables<K>,
 ) -> Result<Peeling, Refused<(Peeling, Grant)>>
     ensures lent { StillLent tables.old tables.new }
     ensures peeled { PeelsAll K.Kind plan.now tile (held tables.old) result (held tables.new) }
 {
-    let mut tile = tile;
     for _ in 0..plan.total() + 1 {
         let queue = &mut *tables.queue;
         let (taken, grant) = match tile.take(plan, queue) {
             Ok(both) => both,
             Err(refused) => return Ok(refused.back),
         };
-        let (settled, _) = taken.settle(
+        (tile, _) = taken.settle(
             grant,
             plan,
             tables.picture,
@@ -48,7 +46,6 @@ pub(crate) fn peel_all<K: Kind>(
             tables.counts,
             tables.queue,
         )?;
-        tile = settled;
     }
     Ok(tile)
 }

@@ -1,24 +1,14 @@
 -- The check of the tables, which comes first in a step.
-use Rattle.std.proofs.Common.{◌≡◌, ℕ, zero, suc, ◌<◌, ◌≤◌, cond, ltb, ◌⊎◌, Some, None, sym, refl, ap, ◌∙◌, inl, inr, arith}
+use Rattle.std.proofs.Common.{◌≡◌, ℕ, zero, suc, ◌<◌, ◌≤◌, cond, ltb, ◌⊎◌, None, sym, refl, ◌∙◌, inl, inr, arith}
 use Rattle.std.proofs.lemmas.Bool.{cases_lt, cond-true, cond-false, lt-ltb, le-ltb}
 use Rattle.mojette.specs.Meaning.{Shape}
-use Rattle.mojette.specs.Refusals.{Refusal, refusal}
-use Rattle.law.specs.Steps.{Stage, Tables, Outcome, refuse, checked, short}
+use Rattle.law.specs.Steps.{Tables, short}
 use Rattle.law.specs.Life.{LongEnough}
 use Rattle.tile.specs.Worlds.{short_refusal}
 
--- where the check refuses, and where it does not
-pub checked_short : {S : Type 0} (n : ℕ) (stage : Stage) (t : Tables S) (o : Outcome S) (r : Refusal) → Some r ≡ short_refusal n → refuse stage t r ≡ checked n stage t o
-checked_short zero stage t o r e = absurd cc
-checked_short (suc n) stage t o r e = let same : r ≡ refusal 5 (suc n) 0 0 = cc in ap (refuse stage t) same
-
-pub none_short : (n : ℕ) → None ≡ short_refusal n → n ≡ 0
+none_short : (n : ℕ) → None ≡ short_refusal n → n ≡ 0
 none_short zero e = refl
 none_short (suc n) e = absurd cc
-
-pub checked_long : {S : Type 0} (n : ℕ) (stage : Stage) (t : Tables S) (o : Outcome S) → None ≡ short_refusal n → o ≡ checked n stage t o
-checked_long zero stage t o e = refl
-checked_long (suc n) stage t o e = absurd cc
 
 -- a choice of a number that is not 0, and then another
 past : (a b n x : ℕ) → cond (ltb a b) (suc n) x ≡ 0 → (b ≤ a) × (x ≡ 0)

@@ -1,7 +1,5 @@
 -- What is lent stays lent from one step to the next.
-use Rattle.std.proofs.Common.{◌≡◌, ℕ, List, refl, ◌∙◌, arith}
-use Rattle.mojette.specs.Meaning.{Shape}
-use Rattle.law.specs.Life.{LongEnough}
+use Rattle.std.proofs.Common.{◌≡◌, ℕ, List, refl, ◌∙◌}
 use Rattle.tile.specs.declared.lent.Tables.{Tables as Lent}
 use Rattle.tile.specs.Outcomes.{tables}
 use Rattle.tile.specs.Worlds.{held, StillLent}
@@ -39,12 +37,3 @@ module _ {S : Type 0} where
   pub as_left : {picture : List S} {marks : List ℕ} {sums : List S} {counts queue : List ℕ} (t : Lent S) → picture ≡ t.picture.now → marks ≡ t.marks.now → sums ≡ t.sums.now →
       counts ≡ t.counts.now → queue ≡ t.queue.now → tables picture marks sums counts queue ≡ held t
   as_left t e f g h k = λ j. tables (e j) (f j) (g j) (h j) (k j)
-
-  pub still_long : (shape : Shape) {t t' : Lent S} → StillLent t t' → LongEnough shape (held t) → LongEnough shape (held t')
-  still_long shape x long = record {
-    picture = omega (arith, x.picture_size, long.picture);
-    marks = omega (arith, x.marks_size, long.marks);
-    sums = omega (arith, x.sums_size, long.sums);
-    counts = omega (arith, x.counts_size, long.counts);
-    queue = omega (arith, x.queue_size, long.queue);
-  }

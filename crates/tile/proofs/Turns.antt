@@ -1,6 +1,5 @@
 -- One turn of the loop that takes v off the bins of a pixel, place after place.
-use Rattle.std.proofs.Common.{◌≡◌, ℕ, ◌+◌, ◌-◌, ◌<◌, true, ◌&&◌, List, length, get_or, sym, ap, ◌∙◌, subst, subst₂, arith}
-use Rattle.std.proofs.lemmas.List.{get_or_default}
+use Rattle.std.proofs.Common.{◌≡◌, ℕ, ◌+◌, ◌-◌, ◌<◌, true, ◌&&◌, List, length, sym, ap, ◌∙◌, subst, subst₂, arith}
 use Rattle.std.proofs.lemmas.Bool.{ne_eqb}
 use Rattle.samples.specs.declared.kind.Kind.{Ghosts as Operations}
 use Rattle.mojette.specs.Bins.{in_bin}
@@ -58,11 +57,6 @@ module _ {S : Type 0} (K : Operations S) (plan : Plan) (c : ℕ) (v : S) (w : Wo
 
     pub lost_turn : ((place_at (places_of plan) i).cause ≡ 0 → ⊥) → after ≡ u → after ≡ off (starts plan (i + 1))
     lost_turn ne same = same ∙ so_far ∙ off_lost ne
-
--- the sum at a position, with v taken off
-pub new_sum : {S : Type 0} (K : Operations S) (sums : List S) (at : ℕ) (v x r : S) → at < length sums → r ≡ K.plus (get_or sums at x) (K.inverse v) →
-    r ≡ K.plus (get_or sums at K.zero) (K.inverse v)
-new_sum K sums at v x r l e = e ∙ ap (λ y. K.plus y (K.inverse v)) (get_or_default sums at x K.zero l)
 
 -- where the code finds the bin of a pixel at a turn
 pub lies_here : (plan : Plan) (ys : List Place) (i : ℕ) (x : Pixel) (at P Q : ℕ) → Turn plan ys i → P ≡ plan.size.columns → Q ≡ plan.size.rows →

@@ -35,6 +35,7 @@ fn first_left<K: Kind>(plan: &Plan, sums: &[K]) -> Option<(usize, usize)>
 
 impl Peeling {
     // Finishes a tile with no pixel missing, no grant out and no sum left over.
+    #[tactic(auto, using(std::proofs::lemmas::Bool::Decides::nat_tests), unfolding(law::specs::Steps::finish, law::specs::Steps::short_sums, peeling::specs::Steps::finish_answers))]
     pub fn finish<K: Kind>(self, plan: &Plan, sums: &[K]) -> Result<Finished, Refused<Peeling>>
         ensures step { Finishes K.Kind plan.now self sums.now result }
         ensures cells { IfOk result (λ f. f.cells ≡ pixels_of (shape plan.now)) }

@@ -48,6 +48,7 @@ fn record_of(place: Place) -> Record
 }
 
 // Whether a source has the plan's sizes, and the plan's direction and cause at place i.
+#[tactic(auto, using(std::proofs::lemmas::Bool::Decides::nat_tests), unfolding(law::specs::Steps::fits))]
 fn fits_plan<S: Source>(source: &S, plan: &Plan, i: usize) -> bool
     requires { i < length (places_of plan.now) }
     ensures { result ≡ fits (shape plan.now) (S.meaning source.now) i }
@@ -66,6 +67,7 @@ fn fits_plan<S: Source>(source: &S, plan: &Plan, i: usize) -> bool
 
 impl Loading {
     // Loads the next place: the source's bins at their positions, or zeros where the place is lost.
+    #[tactic(auto, using(std::proofs::lemmas::Bool::Decides::nat_tests), unfolding(law::specs::Steps::load, law::specs::Steps::short_sums, law::specs::Steps::with_place))]
     pub fn load<S: Source>(
         self,
         source: &S,

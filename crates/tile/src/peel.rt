@@ -17,6 +17,7 @@ use samples::{Kind, minus};
 use walk::{Pixel, bin_at};
 
 // Takes v off the bin at one position, which is appended where its count becomes 1.
+#[tactic(auto, using(std::proofs::lemmas::Bool::Decides::nat_tests), unfolding(peeling::specs::Steps::take_off, peeling::specs::Steps::append, peeling::specs::Steps::lowered))]
 fn take_off<K: Kind>(plan: &Plan, v: K, at: usize, state: &mut State, tables: &mut Tables<K>)
     requires at { at < bins_of (shape plan.now) }
     requires long { LongEnough (shape plan.now) (held tables.old) }

@@ -30,6 +30,7 @@ fn fill<T: Copy>(n: usize, value: T, cells: &mut [T])
 }
 
 // Queues every position whose bin has one pixel, rising.
+#[tactic(auto, using(std::proofs::lemmas::Bool::Decides::nat_tests), unfolding(crate::specs::Seals::singles_queued))]
 fn queue_singles(state: &mut State, bins: usize, counts: &[u8], queue: &mut [u16])
     requires { (1 ≤ bins) × ((bins < 65536) × ((bins ≤ length counts.now) × (bins ≤ length queue.old))) }
     ensures { (state.new, queue.new) ≡ singles_queued bins bins counts.now (state.old, queue.old) }
@@ -60,6 +61,7 @@ fn count_and_queue(plan: &Plan, counts: &mut [u8], queue: &mut [u16]) -> State
 }
 
 // The accepted part: all pixels missing, each bin counted, and those with one pixel queued.
+#[tactic(auto, using(std::proofs::lemmas::Bool::Decides::nat_tests, crate::proofs::Sealing::counted_is, crate::proofs::Sealing::queues), unfolding(peeling::specs::Steps::seal, peeling::specs::Steps::zeroed))]
 fn begin<K: Kind>(plan: &Plan, tables: &mut Tables<K>) -> State
     requires { LongEnough (shape plan.now) (held tables.old) }
     ensures lent { StillLent tables.old tables.new }
@@ -86,6 +88,7 @@ fn judge<K: Kind>(plan: &Plan, picture: &mut [K]) -> Result<(), Fault>
 
 impl Loading {
     // Begins the peeling where Katz's criterion holds; else the picture shows a ghost.
+    #[tactic(auto, using(std::proofs::lemmas::Bool::Decides::nat_tests, crate::proofs::Checks::all_long), unfolding(law::specs::Steps::seal, law::specs::Steps::ghosted))]
     pub fn seal<K: Kind>(
         self,
         plan: &Plan,

@@ -21,6 +21,7 @@ use walk::lone_pixel;
 
 // Where the bin at a position is whole and exactly one pixel of it is missing, that pixel takes the bin's sum.
 // The answer is the pixel's cell.
+#[tactic(auto, using(std::proofs::lemmas::Bool::Decides::nat_tests, walk::proofs::Finding::lone_there), unfolding(law::specs::Steps::finds, peeling::specs::Steps::peeled, peeling::specs::Steps::find, peeling::specs::Steps::placed, peeling::specs::Steps::one_found, peeling::specs::Steps::open_in))]
 fn peel_bin<K: Kind>(
     plan: &Plan,
     at: usize,
@@ -47,6 +48,7 @@ fn peel_bin<K: Kind>(
 
 impl Peeling {
     // Spends a grant. The answer is the cell of the pixel that is found, or none, and how many pixels are missing.
+    #[tactic(auto, using(std::proofs::lemmas::Bool::Decides::nat_tests, crate::proofs::Checks::all_long), unfolding(law::specs::Steps::settle, peeling::specs::Steps::spent))]
     pub fn settle<K: Kind>(
         self,
         grant: Grant,

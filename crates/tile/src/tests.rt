@@ -1,4 +1,5 @@
 // Tiles of 2 by 2 in sum words, from open to picture.
+use crate::lent::Tables;
 use crate::opening::open;
 use crate::states::{Finished, Grant, Loading, Peeling, Refused};
 use mojette::{Direction, Record, Refusal};
@@ -37,19 +38,24 @@ fn load(
 fn peel(
     mut tile: Peeling,
     plan: &Plan,
-    picture: &mut [SumWord],
-    sums: &mut [SumWord],
-    marks: &mut [u8],
-    counts: &mut [u8],
-    queue: &mut [u16],
+    tables: &mut Tables<SumWord>,
     grants: &mut [u16],
 ) -> Result<Peeling, Fail> {
     for granted in grants.iter_mut() {
-        match tile.take(plan, queue) {
+        match tile.take(plan, tables.queue) {
             Err(refused) => return Ok(refused.back),
             Ok((next, grant)) => {
                 *granted = grant.position;
-                match next.settle(grant, plan, picture, marks, sums, counts, queue) {
+                let settled = next.settle(
+                    grant,
+                    plan,
+                    tables.picture,
+                    tables.marks,
+                    tables.sums,
+                    tables.counts,
+                    tables.queue,
+                );
+                match settled {
                     Ok((after, _)) => tile = after,
                     Err(refused) => {
                         let (_, grant) = refused.back;
@@ -112,16 +118,14 @@ fn rebuilt<'a>(
         )
         .ok()
         .ok_or("seal")?;
-    let tile = peel(
-        tile,
-        &plan,
-        &mut picture,
-        &mut sums,
-        &mut marks,
-        &mut counts,
-        &mut queue,
-        grants,
-    )?;
+    let mut tables = Tables {
+        picture: &mut picture,
+        marks: &mut marks,
+        sums: &mut sums,
+        counts: &mut counts,
+        queue: &mut queue,
+    };
+    let tile = peel(tile, &plan, &mut tables, grants)?;
     shown(rt, tile.finish(&plan, &sums), &mut picture)
 }
 

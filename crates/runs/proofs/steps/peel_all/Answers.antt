@@ -25,8 +25,8 @@ returns-in-Err-clause-peeled g c = λ m h own life none.
       ),
     )
 
-pub returns-in_err-settled-clause-peeled : goal.returns-in_err-settled-clause-peeled
-returns-in_err-settled-clause-peeled g c = λ m h own life none.
+pub returns-in_err-tile-clause-peeled : goal.returns-in_err-tile-clause-peeled
+returns-in_err-tile-clause-peeled g c = λ m h own life none.
     let K = g.K.Kind in
     let plan = c.args.plan.now in
     let t = held c.loop.tables in
@@ -35,7 +35,7 @@ returns-in_err-settled-clause-peeled g c = λ m h own life none.
     let grant = c.in-Ok.both.1 in
     let took = taken_one K m plan own c.loop.tile t w.0 w.1 x grant c.in-Ok.ensures in
     absurd (settle_serves K m plan own x grant t (tables c.settle.new.picture c.settle.new.marks c.settle.new.sums c.settle.new.counts c.settle.new.queue)
-    (event calls.takes (granted grant.position) ∷ w.0) took (grant_is_out K m w.0 grant.position) c.in_err-settled.field-0.0 c.in_err-settled.ensures.step)
+    (event calls.takes (granted grant.position) ∷ w.0) took (grant_is_out K m w.0 grant.position) c.in_err-tile.field-0.0 c.in_err-tile.ensures.step)
 
 pub loop-preserved : goal.loop-preserved
 loop-preserved g c = record {
@@ -48,11 +48,11 @@ loop-preserved g c = record {
       let x = c.in-Ok.both.0 in
       let grant = c.in-Ok.both.1 in
       let p = grant.position in
-      let found = c.in_ok-settled.field-0-1 in
+      let found = c.in_ok-tile.field-0-1 in
       let took = taken_one K m plan own c.loop.tile t w.0 w.1 x grant c.in-Ok.ensures in (
         event (calls.settles p) (settled found.0 found.1) ∷ event calls.takes (granted p) ∷ w.0,
         settled_one K m plan own x grant t (tables c.settle.new.picture c.settle.new.marks c.settle.new.sums c.settle.new.counts c.settle.new.queue)
-            (event calls.takes (granted p) ∷ w.0) took (grant_is_out K m w.0 p) c.in_ok-settled.settled found.0 found.1 c.in_ok-settled.ensures.step,
+            (event calls.takes (granted p) ∷ w.0) took (grant_is_out K m w.0 p) c.in_ok-tile.field-0-0 found.0 found.1 c.in_ok-tile.ensures.step,
         none_out K m w.0 p found.0 found.1 w.2,
         omega (arith, w.3, one_settled K m w.0 p found.0 found.1),
       );

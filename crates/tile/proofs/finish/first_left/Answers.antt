@@ -1,10 +1,10 @@
-use Rattle.std.proofs.Common.{◌+◌, ◌<◌, ◌≤◌, true, false, length, ap, ◌∙◌, arith, rules}
+use Rattle.std.proofs.Common.{◌+◌, ◌<◌, ◌≤◌, false, length, ap, ◌∙◌, arith, rules}
 use Rattle.std.proofs.lemmas.List.Edits.{length-between, get_or-between}
 use Rattle.mojette.specs.Meaning.{bins_of}
 use Rattle.plan.specs.Laid.{place_at}
 use Rattle.plan.specs.Shapes.{shape}
 use Rattle.walk.proofs.Laying.{turn, all_starts}
-use Rattle.tile.proofs.Leftovers.{read_left, one_more, first_is, none_left}
+use Rattle.tile.proofs.Leftovers.{read_left, first_is, none_left}
 use Rattle.tile.proofs.finish.first_left.Goals as goal
 
 pub overflow_add-own : goal.overflow_add-own
@@ -28,21 +28,6 @@ slice_bounds-own-end g c =
     let x = place_at c.places-places.result.now c.loop-i.i in
     let fits : x.start + x.bins ≤ length c.args.sums.now = omega (arith, t.inside, plan.full, c.requires) in
     search rules
-
-pub loop-b-init : goal.loop-b-init
-loop-b-init g c = λ x l. c.loop-i.invariant x (omega arith)
-
-pub loop-b-preserved : goal.loop-b-preserved
-loop-b-preserved g c =
-    let plan = c.args.plan.now in
-    let sums = c.args.sums.now in
-    let t = turn plan c.places-places.result.now c.loop-i.i c.places-places.ensures c.loop-i-test.true in
-    let place = place_at c.places-places.result.now c.loop-i.i in
-    let fits : place.start + place.bins ≤ length sums = omega (arith, t.inside, plan.full, c.requires) in
-    let inside : c.loop-b.b < place.bins = omega (arith, length-between sums place.start (place.start + place.bins) fits, c.loop-b-test.true) in
-    let here = read_left g.K.Kind sums (place.start + c.loop-b.b) c.index-own-b.result c.zero_sample-zero.result true (omega arith)
-    (c.index-own-b.is ∙ get_or-between sums place.start (place.start + place.bins) c.loop-b.b c.index-own-b.result (omega arith)) c.zero_sample-zero.ensures c.if-not-same.ensures in
-    λ x l. one_more g.K.Kind sums (place.start + c.loop-b.b) (λ y m. c.loop-b.invariant y (omega (arith, t.starts))) here x (omega (arith, t.starts))
 
 pub loop-i-preserved : goal.loop-i-preserved
 loop-i-preserved g c =
