@@ -8,7 +8,8 @@ pub struct Direction {
     pub q: i32,
 }
 
-// A place of a plan: a direction, and why its projection is lost; cause 0 for a whole one.
+// A place of a plan: a direction, and why its projection is lost; cause 0 for a whole one. Records are cells of lent tables, whose
+// cause is a byte by the rules.
 #[derive(Clone, Copy, Debug, PartialEq, Eq)]
 pub struct Record {
     pub direction: Direction,

@@ -1,4 +1,5 @@
 // A place as the loops use it. A file of its own, so that `specs/` can name the type.
+// Its fields are any numbers, since callers may hand in any place: the bounds of a lawful one stand where they are needed.
 
 #[derive(Clone, Copy)]
 pub struct Place {

@@ -1,4 +1,4 @@
-// The three kinds of the bench.
+// The three kinds of the bench. The two words share what the trait names, and differ in the operation.
 ghost use Rattle.samples.specs.Words.{sum_plus, sum_inverse, sum_zero, sum_spark, sum_equal, sum_laws, xor_plus, xor_inverse, xor_zero, xor_spark, xor_equal, xor_laws};
 ghost use Rattle.samples.specs.Pairs.{pair_plus, pair_inverse, pair_of, pair_equal, pair_laws};
 
