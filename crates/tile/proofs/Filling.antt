@@ -1,5 +1,5 @@
 -- Loading a place of a source that fits.
-use Rattle.std.proofs.Common.{◌≡◌, ℕ, zero, suc, ◌+◌, ◌<◌, ◌≤◌, true, eqb, List, [], ◌∷◌, length, get_or, sym, refl, ap, ◌∙◌, ap₂, arith}
+use Rattle.std.proofs.Common.{◌≡◌, ℕ, zero, suc, ◌+◌, ◌<◌, ◌≤◌, true, eqb, List, [], ◌∷◌, length, get_or, sym, refl, ap, ◌∙◌, subst, ap₂, arith}
 use Rattle.std.proofs.lemmas.List.{length-map}
 use Rattle.std.proofs.lemmas.Bool.{eqb-true, and_parts}
 use Rattle.std.proofs.lemmas.Bool.Decides.{nat_tests}
@@ -16,7 +16,7 @@ use Rattle.plan.specs.Laid.{place_at as nth}
 use Rattle.plan.specs.Shapes.{shape, places_of}
 use Rattle.source.specs.Questions.{place_at, bins_at}
 use Rattle.law.specs.Steps.{no_record, same_record, fits, written, with_place, load, loading, done, served, short_sums, Tables}
-use Rattle.walk.proofs.Laying.{bins_are, Turn}
+use Rattle.walk.proofs.Laying.{bins_are, turn}
 use Rattle.tile.specs.Outcomes.{tables}
 use Rattle.tile.specs.Loads.{bin_value}
 
@@ -57,20 +57,26 @@ module _ {S : Type 0} (shape : Shape) (m : Meaning S) (n : ℕ) where
 -- what the code that writes place i of a source that fits needs of it
 pub record FitsAt {S : Type 0} (plan : Plan) (m : Meaning S) (i : ℕ) (x : Place) : Type 0 where
   pub known : i < length m.places
+  pub starts : x.start ≡ start plan.size.columns plan.size.rows (records_of (places_of plan)) i
+  pub inside : x.start + x.bins ≤ plan.total
   pub size : x.bins ≡ bins plan.size.columns plan.size.rows (place_at m i).entry.direction
   pub size_there : x.bins ≡ bins_at m i
 
-pub fits_at : {S : Type 0} (plan : Plan) (m : Meaning S) (i : ℕ) (ys : List Place) → Turn plan ys i → true ≡ fits (shape plan) m i → FitsAt plan m i (nth ys i)
-fits_at plan m i ys t e =
-    let f = fitting (shape plan) m i (sym e) in
+pub fits_at : {S : Type 0} (plan : Plan) (m : Meaning S) (i : ℕ) (ys : List Place) → ys ≡ places_of plan → i < length ys → true ≡ fits (shape plan) m i →
+    (x : Place) → x ≡ nth ys i → FitsAt plan m i x
+fits_at plan m i ys e l is x same =
+    let t = turn plan ys i e l in
+    let f = fitting (shape plan) m i (sym is) in
     let here : (nth ys i).bins ≡ bins plan.size.columns plan.size.rows (place_at m i).entry.direction =
-    ap (λ x. x.bins) t.same ∙ bins_are plan i t.known
-    ∙ ap (bins plan.size.columns plan.size.rows) (ap (λ x. x.direction) (sym (record_at (places_of plan) i t.known)) ∙ f.direction) in
-    record {
+    ap (λ y. y.bins) t.same ∙ bins_are plan i t.known
+    ∙ ap (bins plan.size.columns plan.size.rows) (ap (λ y. y.direction) (sym (record_at (places_of plan) i t.known)) ∙ f.direction) in
+    subst (FitsAt plan m i) (sym same) (record {
       known = omega (arith, t.known, f.number, length-map (places_of plan) record_of);
+      starts = t.starts;
+      inside = t.inside;
       size = here;
       size_there = here ∙ ap₂ (λ P Q. bins P Q (place_at m i).entry.direction) f.columns f.rows;
-    }
+    })
 
 pub load_served : {S : Type 0} (K : Operations S) (plan : Plan) (m : Meaning S) (n : ℕ) (t : Tables S) (from size : ℕ) (sums : List S) →
     bins_of (shape plan) ≤ length t.sums → n < length (shape plan).records → true ≡ fits (shape plan) m n →

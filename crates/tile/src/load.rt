@@ -82,21 +82,19 @@ impl Loading {
                 fault: Fault::ShortTable(Table::Sums),
             });
         }
-        let places = plan.places();
         let i = self.loaded;
-        if i >= places.len() {
+        let Some(place) = plan.places().get(i) else {
             return Err(Refused {
                 back: self,
                 fault: Fault::AllLoaded,
             });
-        }
+        };
         if !fits_plan(source, plan, i) {
             return Err(Refused {
                 back: self,
                 fault: Fault::OtherSource,
             });
         }
-        let place = places[i];
         write_place(source, i, place.start, place.bins, sums);
         Ok(Loading { loaded: i + 1 })
     }
