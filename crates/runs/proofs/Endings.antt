@@ -1,9 +1,8 @@
 -- How a run ends: at its seal, or at its finish.
-use Rattle.std.proofs.Common.{◌≡◌, ℕ, zero, suc, ◌*◌, ◌<◌, ◌≤◌, Bool, true, false, cond, ltb, List, [], ◌∷◌, length, Some, None, Ok, Err, sym, refl, ap, ◌∙◌, subst, ⊎_elim, arith}
+use Rattle.std.proofs.Common.{◌≡◌, ℕ, zero, suc, ◌*◌, ◌<◌, ◌≤◌, Bool, true, false, cond, ltb, List, [], ◌∷◌, length, Some, None, Ok, Err, Result, sym, refl, ap, ◌∙◌, subst, ⊎_elim, arith}
 use Rattle.std.proofs.lemmas.Bool.{true≢false, cases_Bool, cond-false, le-ltb}
 use Rattle.samples.specs.declared.kind.Kind.{Ghosts as Operations}
-use Rattle.mojette.specs.declared.fault.Table.{Table}
-use Rattle.mojette.specs.Faults.{refusal_of, table_number}
+use Rattle.mojette.specs.Faults.{refusal_of}
 use Rattle.mojette.specs.Meaning.{Meaning, Ghost, Lawful, shape_of, bins_of, pixels_of}
 use Rattle.mojette.specs.Refusals.{Refusal, refusal}
 use Rattle.peeling.specs.History.{out, missing}
@@ -21,16 +20,18 @@ use Rattle.law.proofs.Lives.{kept, finish_is}
 use Rattle.law.proofs.Outcome.{law}
 use Rattle.law.proofs.Sealing.{none_short, seal_ghost, seal_accepted}
 use Rattle.tile.specs.declared.states.Finished.{Finished as FinishedTile}
+use Rattle.tile.specs.declared.states.Grant.{Grant}
 use Rattle.tile.specs.declared.states.Loading.{Loading}
 use Rattle.tile.specs.declared.states.Peeling.{Peeling}
 use Rattle.tile.specs.declared.states.Refused.{Refused}
 use Rattle.tile.specs.Calls.{Seals, Finishes}
 use Rattle.tile.specs.Outcomes.{tables, seal_outcome}
-use Rattle.tile.proofs.Checks.{short_of, all_long, table_some}
+use Rattle.tile.specs.Worlds.{short_refusal}
+use Rattle.tile.proofs.Checks.{all_long}
 use Rattle.tile.proofs.Living.{calls_live}
 use Rattle.runs.specs.Rebuilding.{Ready, Rebuilds, unlawful, too_short, ghosted, contradicted, rebuilt, CanBeRebuilt, Served, ServesExactly, served, refuses}
 use Rattle.runs.specs.Rebuilding as answers
-use Rattle.runs.specs.Runs.{AtRest}
+use Rattle.runs.specs.Runs.{LoadsAll, AllLoaded, PeelsAll, AllPeeled, AtRest}
 use Rattle.runs.proofs.Turns.{not_both}
 
 same_refusal : {r s : Refusal} → refused r ≡ refused s → r ≡ s
@@ -45,7 +46,7 @@ module _ {S : Type 0} (K : Operations S) (m : Meaning S) (plan : Plan) (own : sh
     step : (r : Outcome S) → r ≡ seal K (shape plan) x.loaded t → r ≡ seal K (shape_of m) x.loaded t
     step r e = e ∙ ap (λ s. seal K s x.loaded t) own
 
-    pub seal_refused : (r : Refused Loading) → Seals K plan x t (Err r) t' → Rebuilds K m before (refuses (refusal_of r.fault)) t'
+    seal_refused : (r : Refused Loading) → Seals K plan x t (Err r) t' → Rebuilds K m before (refuses (refusal_of r.fault)) t'
     seal_refused r e = ⊎_elim
         (λ yes. absurd (not_both {a = done} {b = refused (refusal_of r.fault)} refl refl (sym yes ∙ sym (ap (λ o. o.answer) does))))
         (λ ghost.
@@ -67,27 +68,23 @@ module _ {S : Type 0} (K : Operations S) (m : Meaning S) (plan : Plan) (own : sh
             (λ fails. fails) (cases_Bool (criterion (shape_of m)))
 
     module _ (y : Peeling) (e : Seals K plan x t (Ok y) t') where
-      pub sealed : Life K m (event calls.seals done ∷ h) (peeling y.state) t'
+      sealed : Life K m (event calls.seals done ∷ h) (peeling y.state) t'
       sealed = ((calls_live K).seals plan x t (Ok y) t' e).own m h own life tt
 
-      pub none_out_yet : (b : ℕ) → grants_of K m (event calls.seals done ∷ h) b ≡ 0
+      none_out_yet : (b : ℕ) → grants_of K m (event calls.seals done ∷ h) b ≡ 0
       unfolding since_seal out
       none_out_yet b = refl
 
-      pub criterion_holds : criterion (shape_of m) ≡ true
+      criterion_holds : criterion (shape_of m) ≡ true
       criterion_holds = ⊎_elim (λ holds. holds)
           (λ fails. absurd (not_both {a = done} {b = ghosts_remain K m} refl refl
           (ap (λ o. o.answer) (step (seal_outcome (Ok y) t') e) ∙ ap (λ o. o.answer) (seal_ghost K m x.loaded t (kept K m life).long enough fails))))
           (cases_Bool (criterion (shape_of m)))
 
   -- Finish --------------------------------------------------------------------------------------------------------------
-  module _ (holds : criterion (shape_of m) ≡ true) (x : Peeling) (picture sums : List S) (marks counts queue : List ℕ) (h : History)
-      (life : Life K m h (peeling x.state) (tables picture marks sums counts queue)) (rest : AtRest K m h) where
-    abbrev all_tables : Tables S
-    all_tables = tables picture marks sums counts queue
-
-    facts : WhilePeeling K m h x.state all_tables
-    facts = (law K).lives m h (peeling x.state) all_tables life
+  module _ (holds : criterion (shape_of m) ≡ true) (x : Peeling) (t : Tables S) (h : History) (life : Life K m h (peeling x.state) t) (rest : AtRest K m h) where
+    facts : WhilePeeling K m h x.state t
+    facts = (law K).lives m h (peeling x.state) t life
 
     all_found : (c : ℕ) → c < m.P * m.Q → Found K m h c
     all_found c l = ⊎_elim
@@ -102,74 +99,104 @@ module _ {S : Type 0} (K : Operations S) (m : Meaning S) (plan : Plan) (own : sh
     none_held : x.state.out ≡ 0
     none_held = facts.out_is ∙ tally_zero (T K m) _ (λ b l. rest.0 b)
 
-    does : finish K (shape_of m) x.state all_tables ≡ finish_outcome K (shape_of m) x.state all_tables (finish_answers K (bins_of (shape_of m)) x.state sums)
-    does = finish_is K m h x.state all_tables (kept K m life)
+    does : finish K (shape_of m) x.state t ≡ finish_outcome K (shape_of m) x.state t (finish_answers K (bins_of (shape_of m)) x.state t.sums)
+    does = finish_is K m h x.state t (kept K m life)
 
-    pub finish_served : (f : FinishedTile) → Finishes K plan x sums (Ok f) → f.cells ≡ pixels_of (shape plan) → Rebuilds K m before (served f.cells) all_tables
+    finish_served : (f : FinishedTile) → Finishes K plan x t.sums (Ok f) → f.cells ≡ pixels_of (shape plan) → Rebuilds K m before (served f.cells) t
     finish_served f e size =
-        let ends = ((calls_live K).finishes plan x sums (Ok f) e picture marks counts queue).own m h own life tt in
-        let done-facts = (law K).lives m (event calls.finishes done ∷ h) finished all_tables ends in
-        subst (λ n. Rebuilds K m before (served n) all_tables) (sym (size ∙ ap pixels_of own)) (rebuilt ready holds (_, ends) done-facts.picture_agrees done-facts.no_other)
+        let ends = ((calls_live K).finishes plan x t.sums (Ok f) e t.picture t.marks t.counts t.queue).own m h own life tt in
+        let done-facts = (law K).lives m (event calls.finishes done ∷ h) finished t ends in
+        subst (λ n. Rebuilds K m before (served n) t) (sym (size ∙ ap pixels_of own)) (rebuilt ready holds (_, ends) done-facts.picture_agrees done-facts.no_other)
 
-    left_over_is : (r : Refusal) → (finish K (shape_of m) x.state all_tables).answer ≡ refused r → (i : ℕ) × (b : ℕ) × (r ≡ refusal 15 i b 0)
+    left_over_is : (r : Refusal) → (finish K (shape_of m) x.state t).answer ≡ refused r → (i : ℕ) × (b : ℕ) × (r ≡ refusal 15 i b 0)
     unfolding finish_answers
-    left_over_is r e = go (ltb (first_left_over K (bins_of (shape_of m)) sums) (bins_of (shape_of m))) refl
+    left_over_is r e = go (ltb (first_left_over K (bins_of (shape_of m)) t.sums) (bins_of (shape_of m))) refl
       where
         first : ℕ
-        first = first_left_over K (bins_of (shape_of m)) sums
+        first = first_left_over K (bins_of (shape_of m)) t.sums
 
-        answers_as : (b : Bool) → ltb first (bins_of (shape_of m)) ≡ b → finish_answers K (bins_of (shape_of m)) x.state sums ≡ cond b (left_over first) peel.served
+        answers_as : (b : Bool) → ltb first (bins_of (shape_of m)) ≡ b → finish_answers K (bins_of (shape_of m)) x.state t.sums ≡ cond b (left_over first) peel.served
         answers_as b f =
             cond-false (ltb 0 x.state.left) _ _ (le-ltb 0 x.state.left (omega (arith, none_missing)))
             ∙ cond-false (ltb 0 x.state.out) _ _ (le-ltb 0 x.state.out (omega (arith, none_held)))
-            ∙ ap (λ t. cond t (left_over first) peel.served) f
+            ∙ ap (λ u. cond u (left_over first) peel.served) f
 
         go : (b : Bool) → ltb first (bins_of (shape_of m)) ≡ b → (i : ℕ) × (b : ℕ) × (r ≡ refusal 15 i b 0)
         go true f = (
           place_at m.P m.Q (shape_of m).records first,
           bin_at m.P m.Q (shape_of m).records first,
-          same_refusal (sym e ∙ ap (λ o. o.answer) does ∙ ap (λ a. (finish_outcome K (shape_of m) x.state all_tables a).answer) (answers_as true f)),
+          same_refusal (sym e ∙ ap (λ o. o.answer) does ∙ ap (λ a. (finish_outcome K (shape_of m) x.state t a).answer) (answers_as true f)),
         )
         go false f =
             absurd (not_both {a = done} {b = refused r} refl refl
-            (sym (ap (λ o. o.answer) does ∙ ap (λ a. (finish_outcome K (shape_of m) x.state all_tables a).answer) (answers_as false f)) ∙ e))
+            (sym (ap (λ o. o.answer) does ∙ ap (λ a. (finish_outcome K (shape_of m) x.state t a).answer) (answers_as false f)) ∙ e))
 
-    pub finish_refused : (r : Refused Peeling) → Finishes K plan x sums (Err r) → Rebuilds K m before (refuses (refusal_of r.fault)) all_tables
+    finish_refused : (r : Refused Peeling) → Finishes K plan x t.sums (Err r) → Rebuilds K m before (refuses (refusal_of r.fault)) t
     finish_refused r e =
-        let answer : (finish K (shape_of m) x.state all_tables).answer ≡ refused (refusal_of r.fault) =
-        ap (λ s. (finish K s x.state all_tables).answer) (sym own) ∙ sym (ap (λ o. o.answer) (e picture marks counts queue)) in
+        let answer : (finish K (shape_of m) x.state t).answer ≡ refused (refusal_of r.fault) =
+        ap (λ s. (finish K s x.state t).answer) (sym own) ∙ sym (ap (λ o. o.answer) (e t.picture t.marks t.counts t.queue)) in
         let w = left_over_is (refusal_of r.fault) answer in
-        subst (λ a. Rebuilds K m before (refuses a) all_tables) (sym w.2)
+        subst (λ a. Rebuilds K m before (refuses a) t) (sym w.2)
         (contradicted ready holds (h, life) (answer ∙ ap refused w.2)
         (λ tile agrees. not_both {a = done} {b = refused (refusal_of r.fault)} refl refl
         (sym ((facts.finish_serves all_found (λ b l. rest.0 b)).1 (tile, agrees)) ∙ answer)))
 
 -- How a run begins ------------------------------------------------------------------------------------------------------
 module _ {S : Type 0} (K : Operations S) (m : Meaning S) (plan : Plan) (lawful : Lawful (shape_of m)) (own : shape plan ≡ shape_of m) (before : Tables S) where
-  abbrev short_by : ℕ
-  short_by = short_of (shape plan) before
-
-  same_short : short (shape plan) before ≡ short_by
-  unfolding short
-  same_short = refl
-
-  pub begins : 0 ≡ short_by → Ready K m before
+  begins : None ≡ short_refusal (short (shape plan) before) → Ready K m before
   begins e = record { lawful = lawful; long = subst (λ s. LongEnough s before) own (all_long (shape plan) before e) }
 
-  pub short_refused : (table : Table) → table_number table ≡ short_by → Rebuilds K m before (refuses (refusal 5 (table_number table) 0 0)) before
-  short_refused table e = go (table_number table) (table_some table) (sym (e ∙ sym same_short ∙ ap (λ s. short s before) own))
+  pub short_refused : (r : Refusal) → Some r ≡ short_refusal (short (shape plan) before) → Rebuilds K m before (refuses r) before
+  short_refused r e = go (short (shape plan) before) (ap (λ s. short s before) (sym own)) e
     where
-      go : (n : ℕ) → 0 < n → short (shape_of m) before ≡ n → Rebuilds K m before (refuses (refusal 5 n 0 0)) before
-      go zero l e = absurd (omega arith)
-      go (suc k) l e = too_short lawful e
+      go : (n : ℕ) → short (shape_of m) before ≡ n → Some r ≡ short_refusal n → Rebuilds K m before (refuses r) before
+      go zero is e = absurd cc
+      go (suc k) is e = let same : r ≡ refusal 5 (suc k) 0 0 = cc in subst (λ a. Rebuilds K m before (refuses a) before) (sym same) (too_short lawful is)
 
-  module _ (ready : Ready K m before) (x : Loading) (none : x.loaded ≡ 0) where
-    pub first_life : Life K m (event calls.opens done ∷ []) (loading x.loaded) before
-    first_life = subst (λ n. Life K m (event calls.opens done ∷ []) (loading n) before) (sym none) (born ready.lawful ready.long)
-
-  pub none_loaded : loaded_places (event calls.opens done ∷ []) ≡ 0
+  none_loaded : loaded_places (event calls.opens done ∷ []) ≡ 0
   unfolding loaded_places
   none_loaded = refl
+
+  -- the calls of a run, one after another
+  module _ (fits : None ≡ short_refusal (short (shape plan) before)) (x : Loading) (none : x.loaded ≡ 0) where
+    is_ready : Ready K m before
+    is_ready = begins fits
+
+    first_life : Life K m (event calls.opens done ∷ []) (loading x.loaded) before
+    first_life = subst (λ n. Life K m (event calls.opens done ∷ []) (loading n) before) (sym none) (born lawful is_ready.long)
+
+    -- `before` with the sums that are loaded
+    abbrev filled : List S → Tables S
+    filled sums = tables before.picture before.marks sums before.counts before.queue
+
+    module _ (sums : List S) where
+      pub loads_end : (r : Result Loading (Refused Loading)) → LoadsAll K m plan x before.sums r sums → AllLoaded K m r (filled sums)
+      loads_end r loads = loads own before.picture before.marks before.counts before.queue (event calls.opens done ∷ []) first_life none_loaded
+
+      module _ (y : Loading) (loads : LoadsAll K m plan x before.sums (Ok y) sums) (t : Tables S) where
+        loaded : AllLoaded K m (Ok y) (filled sums)
+        loaded = loads_end (Ok y) loads
+
+        pub run_unsealed : (r : Refused Loading) → Seals K plan y (filled sums) (Err r) t → Rebuilds K m before (refuses (refusal_of r.fault)) t
+        run_unsealed = seal_refused K m plan own before is_ready y (filled sums) t loaded.0 loaded.1 loaded.2
+
+        module _ (z : Peeling) (seals : Seals K plan y (filled sums) (Ok z) t) where
+          pub peels_end : (r : Result Peeling (Refused (Peeling × Grant))) (t' : Tables S) → PeelsAll K plan z t r t' → AllPeeled K m r t'
+          peels_end r t' peels = peels m (event calls.seals done ∷ loaded.0) own
+              (sealed K m plan own before is_ready y (filled sums) t loaded.0 loaded.1 loaded.2 z seals) (none_out_yet K m plan own before is_ready y (filled sums) t loaded.0 loaded.1 loaded.2 z seals)
+
+          module _ (w : Peeling) (t' : Tables S) (peels : PeelsAll K plan z t (Ok w) t') where
+            passes : criterion (shape_of m) ≡ true
+            passes = criterion_holds K m plan own before is_ready y (filled sums) t loaded.0 loaded.1 loaded.2 z seals
+
+            peeled : AllPeeled K m (Ok w) t'
+            peeled = peels_end (Ok w) t' peels
+
+            pub run_served : (f : FinishedTile) → Finishes K plan w t'.sums (Ok f) → f.cells ≡ pixels_of (shape plan) → Rebuilds K m before (served f.cells) t'
+            run_served = finish_served K m plan own before is_ready passes w t' peeled.0 peeled.1 peeled.2
+
+            pub run_unfinished : (r : Refused Peeling) → Finishes K plan w t'.sums (Err r) → Rebuilds K m before (refuses (refusal_of r.fault)) t'
+            run_unfinished = finish_refused K m plan own before is_ready passes w t' peeled.0 peeled.1 peeled.2
 
 -- Served exactly when it can be.
 module _ {S : Type 0} (K : Operations S) (m : Meaning S) where

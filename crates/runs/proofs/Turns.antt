@@ -45,22 +45,19 @@ module _ {S : Type 0} (K : Operations S) (m : Meaning S) (plan : Plan) (own : sh
         ∙ sym (ap (λ o. o.answer) (e picture marks counts queue)))
 
   -- Take ----------------------------------------------------------------------------------------------------------------
-  module _ (x : Peeling) (picture sums : List S) (marks counts queue : List ℕ) (h : History)
-      (life : Life K m h (peeling x.state) (tables picture marks sums counts queue)) where
-    pub taken_one : (y : Peeling) (g : Grant) → Takes sum_words plan x queue (Ok (y, g)) →
-        Life K m (event calls.takes (granted g.position) ∷ h) (peeling y.state) (tables picture marks sums counts queue)
-    taken_one y g e = ((calls_live K).takes plan x queue (Ok (y, g)) e picture sums marks counts).own m h own life tt
+  module _ (x : Peeling) (t : Tables S) (h : History) (life : Life K m h (peeling x.state) t) where
+    pub taken_one : (y : Peeling) (g : Grant) → Takes sum_words plan x t.queue (Ok (y, g)) → Life K m (event calls.takes (granted g.position) ∷ h) (peeling y.state) t
+    taken_one y g e = ((calls_live K).takes plan x t.queue (Ok (y, g)) e t.picture t.sums t.marks t.counts).own m h own life tt
 
-    pub none_taken : (r : Refused Peeling) → Takes sum_words plan x queue (Err r) →
-        Life K m (event calls.takes (refused (refusal_of r.fault)) ∷ h) (peeling r.back.state) (tables picture marks sums counts queue)
-    none_taken r e = ((calls_live K).takes plan x queue (Err r) e picture sums marks counts).own m h own life tt
+    pub none_taken : (r : Refused Peeling) → Takes sum_words plan x t.queue (Err r) → Life K m (event calls.takes (refused (refusal_of r.fault)) ∷ h) (peeling r.back.state) t
+    none_taken r e = ((calls_live K).takes plan x t.queue (Err r) e t.picture t.sums t.marks t.counts).own m h own life tt
 
-    pub none_waits : (r : Refused Peeling) → Takes sum_words plan x queue (Err r) → (b : ℕ) → b < T K m → ¬ (Waits K m h b)
+    pub none_waits : (r : Refused Peeling) → Takes sum_words plan x t.queue (Err r) → (b : ℕ) → b < T K m → ¬ (Waits K m h b)
     none_waits r e =
-        ((law K).lives m h (peeling x.state) (tables picture marks sums counts queue) life).take_refuses.0 (
+        ((law K).lives m h (peeling x.state) t life).take_refuses.0 (
           refusal_of r.fault,
-          ap (λ s. (take K s x.state (tables picture marks sums counts queue)).answer) (sym own)
-              ∙ sym (ap (λ o. o.answer) ((calls_live K).takes_so plan x queue (Err r) e picture sums marks counts)),
+          ap (λ s. (take K s x.state t).answer) (sym own)
+              ∙ sym (ap (λ o. o.answer) ((calls_live K).takes_so plan x t.queue (Err r) e t.picture t.sums t.marks t.counts)),
         )
 
   -- Settle --------------------------------------------------------------------------------------------------------------

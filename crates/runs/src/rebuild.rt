@@ -5,55 +5,45 @@ ghost use Rattle.plan.specs.Shapes.{shape};
 ghost use Rattle.law.specs.Law.{Law};
 ghost use Rattle.runs.specs.Rebuilding.{answer, Rebuilds, ServesExactly, Fills};
 ghost use Rattle.tile.specs.Outcomes.{tables};
+ghost use Rattle.tile.specs.Worlds.{StillLent, held};
 
 use crate::steps::{load_all, peel_all};
 use mojette::Fault;
 use plan::Plan;
 use source::Source;
-use tile::tables::first_short;
-use tile::{Finished, Loading, open};
+use tile::{Finished, Loading, Tables, open};
 
 // The tile that was opened, from its first load to its end.
 fn run<S: Source>(
     tile: Loading,
     source: &S,
     plan: &Plan,
-    picture: &mut [S::Sample],
-    marks: &mut [u8],
-    sums: &mut [S::Sample],
-    counts: &mut [u8],
-    queue: &mut [u16],
+    tables: &mut Tables<S::Sample>,
 ) -> Result<Finished, Fault>
     requires lawful { Lawful (shape_of (S.meaning source.now)) }
     requires own { shape plan.now ≡ shape_of (S.meaning source.now) }
     requires opened { tile.loaded ≡ 0 }
-    ensures { Rebuilds S.Sample.Kind (S.meaning source.now) (tables picture.old marks.old sums.old counts.old queue.old) (answer result) (tables picture.new marks.new sums.new counts.new queue.new) }
+    ensures lent { StillLent tables.old tables.new }
+    ensures run { Rebuilds S.Sample.Kind (S.meaning source.now) (held tables.old) (answer result) (held tables.new) }
 {
-    if let Some(table) = first_short(
-        plan,
-        picture.len(),
-        marks.len(),
-        sums.len(),
-        counts.len(),
-        queue.len(),
-    ) {
-        return Err(Fault::ShortTable(table));
-    }
-    let Ok(tile) = load_all(tile, source, plan, sums) else {
+    tables.check(plan)?;
+    let Ok(tile) = load_all(tile, source, plan, tables.sums) else {
         unreachable()
     };
-    let tile = match tile.seal(plan, picture, marks, sums, counts, queue) {
-        Ok(tile) => tile,
-        Err(refused) => return Err(refused.fault),
-    };
-    let tile = match peel_all(tile, plan, picture, marks, sums, counts, queue) {
+    let tile = tile.seal(
+        plan,
+        tables.picture,
+        tables.marks,
+        tables.sums,
+        tables.counts,
+        tables.queue,
+    )?;
+    let tile = match peel_all(tile, plan, tables) {
         Ok(tile) => tile,
         Err(_held) => unreachable(),
     };
-    match tile.finish(plan, sums) {
-        Ok(tile) => Ok(tile),
-        Err(refused) => Err(refused.fault),
-    }
+    let sums = &mut *tables.sums;
+    Ok(tile.finish(plan, sums)?)
 }
 
 // Opens, loads, seals, takes and settles until nothing waits, and finishes.
@@ -72,5 +62,12 @@ pub fn rebuild<S: Source>(
     ensures law { Law S.Sample.Kind }
 {
     let tile = open(source, plan)?;
-    run(tile, source, plan, picture, marks, sums, counts, queue)
+    let mut tables = Tables {
+        picture,
+        marks,
+        sums,
+        counts,
+        queue,
+    };
+    run(tile, source, plan, &mut tables)
 }

@@ -1,23 +1,22 @@
 // Loading all places, and peeling until nothing waits.
 ghost use Rattle.runs.specs.Runs.{LoadsAll, PeelsAll};
-ghost use Rattle.tile.specs.Outcomes.{tables};
+ghost use Rattle.tile.specs.Worlds.{StillLent, held};
 
 use plan::Plan;
 use samples::Kind;
 use source::Source;
-use tile::{Grant, Loading, Peeling, Refused};
+use tile::{Grant, Loading, Peeling, Refused, Tables};
 
 // Loads every place of the source.
 pub(crate) fn load_all<S: Source>(
-    tile: Loading,
+    mut tile: Loading,
     source: &S,
     plan: &Plan,
     sums: &mut [S::Sample],
 ) -> Result<Loading, Refused<Loading>>
     ensures { LoadsAll S.Sample.Kind (S.meaning source.now) plan.now tile sums.old result sums.new }
 {
-    let mut tile = tile;
-    for i in 0..plan.count() {
+    for _ in 0..plan.count() {
         tile = tile.load(source, plan, sums)?;
     }
     Ok(tile)
@@ -25,24 +24,28 @@ pub(crate) fn load_all<S: Source>(
 
 // Takes and settles until nothing waits; one turn more than there are bins is never needed.
 pub(crate) fn peel_all<K: Kind>(
-    tile: Peeling,
+    mut tile: Peeling,
     plan: &Plan,
-    picture: &mut [K],
-    marks: &mut [u8],
-    sums: &mut [K],
-    counts: &mut [u8],
-    queue: &mut [u16],
+    tables: &mut Tables<K>,
 ) -> Result<Peeling, Refused<(Peeling, Grant)>>
-    ensures { PeelsAll K.Kind plan.now tile (tables picture.old marks.old sums.old counts.old queue.old) result (tables picture.new marks.new sums.new counts.new queue.new) }
+    ensures lent { StillLent tables.old tables.new }
+    ensures peeled { PeelsAll K.Kind plan.now tile (held tables.old) result (held tables.new) }
 {
-    let mut tile = tile;
-    for i in 0..plan.total() + 1 {
+    for _ in 0..plan.total() + 1 {
+        let queue = &mut *tables.queue;
         let (taken, grant) = match tile.take(plan, queue) {
             Ok(both) => both,
             Err(refused) => return Ok(refused.back),
         };
-        let (settled, _) = taken.settle(grant, plan, picture, marks, sums, counts, queue)?;
-        tile = settled;
+        (tile, _) = taken.settle(
+            grant,
+            plan,
+            tables.picture,
+            tables.marks,
+            tables.sums,
+            tables.counts,
+            tables.queue,
+        )?;
     }
     Ok(tile)
 }

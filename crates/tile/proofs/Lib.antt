@@ -1,10 +1,11 @@
 pub mod Checks
+pub mod Constants
 pub mod Filling
-pub mod Finding
+pub mod Keeping
 pub mod Leftovers
 pub mod Living
+pub mod Parts
 pub mod Rings
 pub mod Sealing
-pub mod Settling
 pub mod Showing
 pub mod Turns

@@ -1,14 +1,14 @@
 -- The criterion, and the ghost in the picture, as the code leaves them.
-use Rattle.std.proofs.Common.{◌≡◌, ℕ, zero, suc, ◌≤◌, Bool, true, false, cond, List, ◌++◌, map, length, take as first, drop, Ok, Err, sym, refl, ap, ◌∙◌, arith}
+use Rattle.std.proofs.Common.{◌≡◌, ℕ, zero, suc, ◌≤◌, Bool, true, false, cond, List, ◌++◌, map, length, take as first, drop, Err, sym, refl, ap, ◌∙◌, arith}
 use Rattle.std.specs.List.{range_with_len}
 use Rattle.std.proofs.lemmas.List.FromFn.{fill_by_all}
 use Rattle.std.proofs.lemmas.List.{take-append-drop, drop-set-lt, get_or-take, length-take-le}
-use Rattle.std.proofs.lemmas.Bool.{cond-true, cond-false, le-ltb}
+use Rattle.std.proofs.lemmas.Bool.{cond-false, le-ltb}
 use Rattle.samples.specs.declared.kind.Kind.{Ghosts as Operations}
 use Rattle.mojette.specs.declared.fault.Fault.TheVariants.{Ghost}
-use Rattle.mojette.specs.Faults.{served, refuses}
+use Rattle.mojette.specs.Faults.{served}
 use Rattle.mojette.specs.Meaning.{Shape, pixels_of}
-use Rattle.mojette.specs.Refusals.{Refusal, refusal}
+use Rattle.mojette.specs.Refusals.{refusal}
 use Rattle.katz.specs.Made.{made, cell_of}
 use Rattle.peeling.specs.Steps.{filled}
 use Rattle.peeling.proofs.Loops.{length-filled, get_or-filled}
@@ -58,22 +58,8 @@ module _ {S : Type 0} (K : Operations S) (s : Shape) (picture : List S) (long : 
         go false h = let a : served c ≡ served (criterion_of s) = ap (λ x. x.answer) h in (cc, ap (λ x. x.picture) h ∙ ghosted_is)
 
     module _ (c : Criterion) (e : shown (served c) picture' ≡ showing K s picture) where
-      pub accepts : c.enough ≡ true → Judges K s picture (Ok tt) picture'
-      accepts t =
-          let h = shows c e in
-          let t' : (criterion_of s).enough ≡ true = ap (λ x. x.enough) (sym h.0) ∙ t in
-          (t', h.1 ∙ cond-true _ _ _ t')
-
       pub refuses_ghost : c.enough ≡ false → Judges K s picture (Err (Ghost c.columns c.rows)) picture'
       refuses_ghost t =
           let h = shows c e in
           let t' : (criterion_of s).enough ≡ false = ap (λ x. x.enough) (sym h.0) ∙ t in
           (t', h.1 ∙ cond-false _ _ _ t', ap (λ x. refusal 9 x.columns x.rows 0) h.0)
-
-    pub never_refuses : (r : Refusal) → shown (refuses r) picture' ≡ showing K s picture → ⊥
-    unfolding by
-    never_refuses r e = go (criterion_of s).enough (e ∙ showing_is)
-      where
-        go : (t : Bool) → shown (refuses r) picture' ≡ by t → ⊥
-        go true h = let a : refuses r ≡ served (criterion_of s) = ap (λ x. x.answer) h in let z : ◌≡◌ {A = ℕ} 0 1 = cc in omega arith
-        go false h = let a : refuses r ≡ served (criterion_of s) = ap (λ x. x.answer) h in let z : ◌≡◌ {A = ℕ} 0 1 = cc in omega arith

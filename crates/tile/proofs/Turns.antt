@@ -1,6 +1,5 @@
 -- One turn of the loop that takes v off the bins of a pixel, place after place.
-use Rattle.std.proofs.Common.{◌≡◌, ℕ, ◌+◌, ◌-◌, ◌<◌, true, ◌&&◌, List, length, get_or, sym, ap, ◌∙◌, subst, subst₂, arith}
-use Rattle.std.proofs.lemmas.List.{get_or_read}
+use Rattle.std.proofs.Common.{◌≡◌, ℕ, ◌+◌, ◌-◌, ◌<◌, true, ◌&&◌, List, length, sym, ap, ◌∙◌, subst, subst₂, arith}
 use Rattle.std.proofs.lemmas.Bool.{ne_eqb}
 use Rattle.samples.specs.declared.kind.Kind.{Ghosts as Operations}
 use Rattle.mojette.specs.Bins.{in_bin}
@@ -52,17 +51,12 @@ module _ {S : Type 0} (K : Operations S) (plan : Plan) (c : ℕ) (v : S) (w : Wo
 
   -- from the world u before the turn to the world after it
   module _ (u after : World S) (so_far : u ≡ off (starts plan i)) where
-    pub whole_turn : (T : ℕ) → T ≡ bins_of (shape plan) → (at : ℕ) → Lies plan i c at → (place_at (places_of plan) i).cause ≡ 0 →
-        (u' : World S) → u' ≡ take_off K T v at u → after ≡ u' → after ≡ off (starts plan (i + 1))
-    whole_turn T is at lies e u' taken same = same ∙ taken ∙ (λ j. take_off K (is j) v at (so_far j)) ∙ off_whole at lies e
+    pub whole_turn : (at : ℕ) → Lies plan i c at → (place_at (places_of plan) i).cause ≡ 0 →
+        (u' : World S) → u' ≡ take_off K (bins_of (shape plan)) v at u → after ≡ u' → after ≡ off (starts plan (i + 1))
+    whole_turn at lies e u' taken same = same ∙ taken ∙ ap (take_off K (bins_of (shape plan)) v at) so_far ∙ off_whole at lies e
 
     pub lost_turn : ((place_at (places_of plan) i).cause ≡ 0 → ⊥) → after ≡ u → after ≡ off (starts plan (i + 1))
     lost_turn ne same = same ∙ so_far ∙ off_lost ne
-
--- the sum at a position, with v taken off
-pub new_sum : {S : Type 0} (K : Operations S) (sums : List S) (at : ℕ) (v x r : S) → at < length sums → x ≡ get_or sums at x → r ≡ K.plus x (K.inverse v) →
-    r ≡ K.plus (get_or sums at K.zero) (K.inverse v)
-new_sum K sums at v x r l read e = e ∙ ap (λ y. K.plus y (K.inverse v)) (get_or_read sums at x l read K.zero)
 
 -- where the code finds the bin of a pixel at a turn
 pub lies_here : (plan : Plan) (ys : List Place) (i : ℕ) (x : Pixel) (at P Q : ℕ) → Turn plan ys i → P ≡ plan.size.columns → Q ≡ plan.size.rows →

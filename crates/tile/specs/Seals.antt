@@ -3,11 +3,15 @@ use Rattle.std.specs.Prelude.{◌≡◌, ℕ, zero, suc, true, false, cond, List
 use Rattle.samples.specs.declared.kind.Kind.{Ghosts as Operations}
 use Rattle.mojette.specs.declared.fault.Fault.{Fault}
 use Rattle.mojette.specs.Faults.{refusal_of}
-use Rattle.mojette.specs.Meaning.{Shape}
+use Rattle.mojette.specs.Meaning.{Shape, pixels_of}
 use Rattle.mojette.specs.Refusals.{refusal}
 use Rattle.peeling.specs.declared.state.State.{State}
 use Rattle.peeling.specs.Steps.{appended, queue_with}
 use Rattle.law.specs.Steps.{C, R, criterion, ghosted}
+
+-- the state of a tile of which all pixels are missing, and nothing is queued
+abbrev pub unpeeled : Shape → State
+unpeeled shape = record { head = 0; waiting = 0; out = 0; left = pixels_of shape; settled = 0 }
 
 -- the state and the queue, with position b appended
 abbrev pub with_position : ℕ → ℕ → State × List ℕ → State × List ℕ

@@ -19,10 +19,12 @@ fn first_left<K: Kind>(plan: &Plan, sums: &[K]) -> Option<(usize, usize)>
 {
     let zero = K::zero_sample();
     let places = plan.places();
+    // The search is left by its label, one of the forms that docs/DECISIONS.md names.
     'places: {
         for (i, place) in places.iter().enumerate() {
-            for b in 0..place.bins {
-                if !sums[place.start + b].same(zero) {
+            let own = &sums[place.start..place.start + place.bins];
+            for (b, sum) in own.iter().enumerate() {
+                if !sum.same(zero) {
                     break 'places Some((i, b));
                 }
             }
@@ -33,6 +35,7 @@ fn first_left<K: Kind>(plan: &Plan, sums: &[K]) -> Option<(usize, usize)>
 
 impl Peeling {
     // Finishes a tile with no pixel missing, no grant out and no sum left over.
+    #[tactic(auto, using(std::proofs::lemmas::Bool::Decides::nat_tests), unfolding(law::specs::Steps::finish, law::specs::Steps::short_sums, peeling::specs::Steps::finish_answers))]
     pub fn finish<K: Kind>(self, plan: &Plan, sums: &[K]) -> Result<Finished, Refused<Peeling>>
         ensures step { Finishes K.Kind plan.now self sums.now result }
         ensures cells { IfOk result (λ f. f.cells ≡ pixels_of (shape plan.now)) }
@@ -74,9 +77,8 @@ impl Finished {
     pub fn picture<'a, K: Kind>(&self, cells: &'a mut [K]) -> Result<&'a [K], Fault>
         ensures { picture_outcome result ≡ pictured self.now.cells cells.old }
     {
-        if cells.len() < self.cells {
-            return Err(Fault::ShortTable(Table::Picture));
-        }
-        Ok(&cells[0..self.cells])
+        cells
+            .get(..self.cells)
+            .ok_or(Fault::ShortTable(Table::Picture))
     }
 }

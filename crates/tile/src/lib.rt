@@ -3,6 +3,7 @@
 
 pub mod counts;
 pub mod finish;
+pub mod lent;
 pub mod lives;
 pub mod load;
 pub mod opening;
@@ -15,6 +16,7 @@ pub mod tables;
 #[cfg(test)]
 mod tests;
 
+pub use lent::Tables;
 pub use lives::calls_live;
 pub use opening::open;
 pub use states::{Finished, Grant, Loading, Peeling, Refused};

@@ -1,6 +1,6 @@
 // Loading the places of a source, one after another.
 ghost use Rattle.std.specs.Prelude.{◌≡◌, ◌+◌, ◌<◌, ◌≤◌, length};
-ghost use Rattle.law.specs.Steps.{written, same_record, fits};
+ghost use Rattle.law.specs.Steps.{written, fits};
 ghost use Rattle.plan.specs.Laid.{record_of};
 ghost use Rattle.plan.specs.Shapes.{shape, places_of};
 ghost use Rattle.source.specs.Questions.{bins_at};
@@ -18,10 +18,7 @@ fn bin_or_zero<S: Source>(source: &S, i: usize, b: usize) -> S::Sample
     requires { (i < length (S.meaning source.now).places) × (b < bins_at (S.meaning source.now) i) }
     ensures { result ≡ bin_value S.Sample.Kind (S.meaning source.now) i b }
 {
-    match source.bin(i, b) {
-        Ok(x) => x,
-        Err(_) => S::Sample::zero_sample(),
-    }
+    source.bin(i, b).unwrap_or(S::Sample::zero_sample())
 }
 
 // Writes the bins of a place at their positions.
@@ -30,12 +27,12 @@ fn write_place<S: Source>(source: &S, i: usize, from: usize, bins: usize, sums: 
     requires room { from + bins ≤ length sums.old }
     ensures { sums.new ≡ written from bins (bin_value S.Sample.Kind (S.meaning source.now) i) sums.old }
 {
-    for b in 0..bins {
-        sums[from + b] = bin_or_zero(source, i, b);
+    for (b, sum) in sums[from..from + bins].iter_mut().enumerate() {
+        *sum = bin_or_zero(source, i, b);
     }
 }
 
-// The record of a place.
+// The record of a place. (No `From`: a place whose numbers are no direction's has none.)
 fn record_of(place: Place) -> Record
     requires { (place.slope ≤ 7) × (place.q ≤ 7) }
     ensures { result ≡ record_of place }
@@ -50,16 +47,8 @@ fn record_of(place: Place) -> Record
     }
 }
 
-// Whether two records have the same direction and the same cause.
-fn is_same(one: Record, other: Record) -> bool
-    ensures { result ≡ same_record one other }
-{
-    one.direction.p == other.direction.p
-        && one.direction.q == other.direction.q
-        && one.cause == other.cause
-}
-
 // Whether a source has the plan's sizes, and the plan's direction and cause at place i.
+#[tactic(auto, using(std::proofs::lemmas::Bool::Decides::nat_tests), unfolding(law::specs::Steps::fits))]
 fn fits_plan<S: Source>(source: &S, plan: &Plan, i: usize) -> bool
     requires { i < length (places_of plan.now) }
     ensures { result ≡ fits (shape plan.now) (S.meaning source.now) i }
@@ -72,14 +61,13 @@ fn fits_plan<S: Source>(source: &S, plan: &Plan, i: usize) -> bool
     {
         return false;
     }
-    match source.place(i) {
-        Ok(other) => is_same(record_of(places[i]), other),
-        Err(_) => false,
-    }
+    let record = record_of(places[i]);
+    source.place(i).is_ok_and(|other| other == record)
 }
 
 impl Loading {
     // Loads the next place: the source's bins at their positions, or zeros where the place is lost.
+    #[tactic(auto, using(std::proofs::lemmas::Bool::Decides::nat_tests), unfolding(law::specs::Steps::load, law::specs::Steps::short_sums, law::specs::Steps::with_place))]
     pub fn load<S: Source>(
         self,
         source: &S,
@@ -94,21 +82,19 @@ impl Loading {
                 fault: Fault::ShortTable(Table::Sums),
             });
         }
-        let places = plan.places();
         let i = self.loaded;
-        if i >= places.len() {
+        let Some(place) = plan.places().get(i) else {
             return Err(Refused {
                 back: self,
                 fault: Fault::AllLoaded,
             });
-        }
+        };
         if !fits_plan(source, plan, i) {
             return Err(Refused {
                 back: self,
                 fault: Fault::OtherSource,
             });
         }
-        let place = places[i];
         write_place(source, i, place.start, place.bins, sums);
         Ok(Loading { loaded: i + 1 })
     }

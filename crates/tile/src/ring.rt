@@ -23,7 +23,9 @@ fn wrapped(n: usize, bins: usize) -> usize
     }
 }
 
-// Appends a position behind those that wait, unless all positions wait.
+// Appends a position behind those that wait, unless all positions wait. (A struct for the ring would be shorter, but what is
+// written through one that is made of lent tables is not known afterwards.)
+#[tactic(auto, using(std::proofs::lemmas::Bool::Decides::nat_tests), unfolding(peeling::specs::Steps::appended, peeling::specs::Steps::one_waits, peeling::specs::Steps::queue_with))]
 pub(crate) fn append(state: &mut State, queue: &mut [u16], bins: usize, at: usize)
     requires { (1 ≤ bins) × ((bins ≤ length queue.old) × (at < 65536)) }
     ensures state { state.new ≡ appended bins state.old }
@@ -38,6 +40,7 @@ pub(crate) fn append(state: &mut State, queue: &mut [u16], bins: usize, at: usiz
 
 impl Peeling {
     // Grants the first position that waits.
+    #[tactic(auto, using(std::proofs::lemmas::Bool::Decides::nat_tests), unfolding(law::specs::Steps::take, law::specs::Steps::short_queue, peeling::specs::Steps::take_answers, peeling::specs::Steps::front, peeling::specs::Steps::taken))]
     pub fn take(self, plan: &Plan, queue: &[u16]) -> Result<(Peeling, Grant), Refused<Peeling>>
         ensures { Takes sum_words plan.now self queue.now result }
     {
@@ -71,6 +74,7 @@ impl Peeling {
     }
 
     // Appends the position of a grant again.
+    #[tactic(auto, using(std::proofs::lemmas::Bool::Decides::nat_tests), unfolding(law::specs::Steps::give_back, law::specs::Steps::short_queue, peeling::specs::Steps::append, peeling::specs::Steps::handed_in))]
     pub fn give_back(
         self,
         grant: Grant,

@@ -1,70 +1,76 @@
 // Sealing a tile whose places are all loaded, written once for every kind of sample.
-ghost use Rattle.std.specs.Prelude.{◌≡◌, ◌<◌, ◌≤◌, List, length};
+ghost use Rattle.std.specs.Prelude.{◌≡◌, ◌<◌, ◌≤◌, length};
 ghost use Rattle.mojette.specs.Meaning.{pixels_of, bins_of};
-ghost use Rattle.peeling.specs.declared.state.State.{State as PeelState};
-ghost use Rattle.peeling.specs.Steps.{world, filled, seal as peel_seal};
+ghost use Rattle.peeling.specs.Steps.{filled, seal as peel_seal};
 ghost use Rattle.plan.specs.Shapes.{shape};
+ghost use Rattle.law.specs.Life.{LongEnough};
 ghost use Rattle.law.specs.Positions.{incidence};
+ghost use Rattle.law.specs.Steps.{blank, world_of};
+ghost use Rattle.walk.specs.Counts.{counts_after};
 ghost use Rattle.tile.specs.Calls.{Seals};
 ghost use Rattle.tile.specs.Outcomes.{tables};
-ghost use Rattle.tile.specs.Seals.{singles_queued, Judges};
+ghost use Rattle.tile.specs.Seals.{unpeeled, singles_queued, Judges};
+ghost use Rattle.tile.specs.Worlds.{StillLent, held};
 
+use crate::lent::Tables;
 use crate::ring::append;
 use crate::states::{Loading, Peeling, Refused};
-use crate::tables::first_short;
 use mojette::Fault;
 use peeling::State;
 use plan::Plan;
 use samples::Kind;
 use walk::count_pixels;
 
-// One value in the first n cells.
+// One value in the first n cells. (`fill` would ask for a clone that cannot fail, which no kind promises.)
 fn fill<T: Copy>(n: usize, value: T, cells: &mut [T])
     requires { n ≤ length cells.old }
     ensures { cells.new ≡ filled n (λ _. value) cells.old }
 {
-    for c in 0..n {
-        cells[c] = value;
-    }
+    cells[..n].fill_with(|| value);
 }
 
 // Queues every position whose bin has one pixel, rising.
+#[tactic(auto, using(std::proofs::lemmas::Bool::Decides::nat_tests), unfolding(crate::specs::Seals::singles_queued))]
 fn queue_singles(state: &mut State, bins: usize, counts: &[u8], queue: &mut [u16])
     requires { (1 ≤ bins) × ((bins < 65536) × ((bins ≤ length counts.now) × (bins ≤ length queue.old))) }
     ensures { (state.new, queue.new) ≡ singles_queued bins bins counts.now (state.old, queue.old) }
 {
-    for at in 0..bins {
-        if counts[at] == 1 {
+    for (at, count) in counts[..bins].iter().enumerate() {
+        if *count == 1 {
             append(state, queue, bins, at);
         }
     }
 }
 
-// The accepted part: all pixels missing, each bin counted, and those with one pixel queued.
-fn begin<K: Kind>(
-    plan: &Plan,
-    picture: &mut [K],
-    marks: &mut [u8],
-    counts: &mut [u8],
-    queue: &mut [u16],
-) -> State
-    requires pixels { (pixels_of (shape plan.now) ≤ length picture.old) × (pixels_of (shape plan.now) ≤ length marks.old) }
-    requires bins { (bins_of (shape plan.now) ≤ length counts.old) × (bins_of (shape plan.now) ≤ length queue.old) }
-    ensures { (s : PeelState) (sums : List K) → world result picture.new marks.new sums counts.new queue.new ≡ peel_seal K.Kind (incidence (shape plan.now)) (world s picture.old marks.old sums counts.old queue.old) }
+// Each bin counted, and those with one pixel queued: a tile of which all pixels are missing.
+fn count_and_queue(plan: &Plan, counts: &mut [u8], queue: &mut [u16]) -> State
+    requires { (bins_of (shape plan.now) ≤ length counts.old) × (bins_of (shape plan.now) ≤ length queue.old) }
+    ensures counts { counts.new ≡ counts_after (shape plan.now) counts.old }
+    ensures ring { (result, queue.new) ≡ singles_queued (bins_of (shape plan.now)) (bins_of (shape plan.now)) counts.new (unpeeled (shape plan.now), queue.old) }
 {
-    let pixels = plan.pixels();
-    fill(pixels, K::zero_sample(), picture);
-    fill(pixels, 0, marks);
     let _ = count_pixels(plan, counts);
     let mut state = State {
         head: 0,
         waiting: 0,
         out: 0,
-        left: pixels as u32,
+        left: plan.pixels() as u32,
         settled: 0,
     };
     queue_singles(&mut state, plan.total(), counts, queue);
     state
+}
+
+// The accepted part: all pixels missing, each bin counted, and those with one pixel queued.
+#[tactic(auto, using(std::proofs::lemmas::Bool::Decides::nat_tests, crate::proofs::Sealing::counted_is, crate::proofs::Sealing::queues), unfolding(peeling::specs::Steps::seal, peeling::specs::Steps::zeroed))]
+fn begin<K: Kind>(plan: &Plan, tables: &mut Tables<K>) -> State
+    requires { LongEnough (shape plan.now) (held tables.old) }
+    ensures lent { StillLent tables.old tables.new }
+    ensures world { world_of result (held tables.new) ≡ peel_seal K.Kind (incidence (shape plan.now)) (world_of blank (held tables.old)) }
+{
+    let pixels = plan.pixels();
+    fill(pixels, K::zero_sample(), tables.picture);
+    fill(pixels, 0, tables.marks);
+    count_and_queue(plan, tables.counts, tables.queue)
 }
 
 // Whether Katz's criterion holds; where it fails the ghost is written.
@@ -82,6 +88,7 @@ fn judge<K: Kind>(plan: &Plan, picture: &mut [K]) -> Result<(), Fault>
 
 impl Loading {
     // Begins the peeling where Katz's criterion holds; else the picture shows a ghost.
+    #[tactic(auto, using(std::proofs::lemmas::Bool::Decides::nat_tests, crate::proofs::Checks::all_long), unfolding(law::specs::Steps::seal, law::specs::Steps::ghosted))]
     pub fn seal<K: Kind>(
         self,
         plan: &Plan,
@@ -93,18 +100,15 @@ impl Loading {
     ) -> Result<Peeling, Refused<Loading>>
         ensures { Seals K.Kind plan.now self (tables picture.old marks.old sums.old counts.old queue.old) result (tables picture.new marks.new sums.new counts.new queue.new) }
     {
-        if let Some(table) = first_short(
-            plan,
-            picture.len(),
-            marks.len(),
-            sums.len(),
-            counts.len(),
-            queue.len(),
-        ) {
-            return Err(Refused {
-                back: self,
-                fault: Fault::ShortTable(table),
-            });
+        let mut tables = Tables {
+            picture,
+            marks,
+            sums,
+            counts,
+            queue,
+        };
+        if let Err(fault) = tables.check(plan) {
+            return Err(Refused { back: self, fault });
         }
         let places = plan.count();
         if self.loaded < places {
@@ -114,11 +118,11 @@ impl Loading {
                 fault: Fault::NotLoaded(missing),
             });
         }
-        if let Err(fault) = judge(plan, picture) {
+        if let Err(fault) = judge(plan, tables.picture) {
             return Err(Refused { back: self, fault });
         }
         Ok(Peeling {
-            state: begin(plan, picture, marks, counts, queue),
+            state: begin(plan, &mut tables),
         })
     }
 }

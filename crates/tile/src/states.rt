@@ -1,5 +1,7 @@
 // What the calls on a tile take and hand back. A file of its own, so that `specs/` can name the types.
 // None can be copied: each call takes the state, and hands on the next or, refused, the same.
+ghost use Rattle.std.specs.Prelude.{◌≡◌};
+
 use mojette::Fault;
 use peeling::State;
 
@@ -31,4 +33,13 @@ pub struct Grant {
 pub struct Refused<B> {
     pub back: B,
     pub fault: Fault,
+}
+
+// What was taken is let go.
+impl<B: Drop> From<Refused<B>> for Fault {
+    ghost from_gives = { λ r fault. fault ≡ r.fault };
+
+    fn from(refused: Refused<B>) -> Fault {
+        refused.fault
+    }
 }

@@ -1,19 +1,13 @@
 // Tiles of 2 by 2 in sum words, from open to picture.
+use crate::lent::Tables;
 use crate::opening::open;
 use crate::states::{Finished, Grant, Loading, Peeling, Refused};
-use mojette::{Direction, Record, Refusal};
+use mojette::{Fault, Record};
 use plan::Plan;
 use samples::SumWord;
 use source::Rack;
 use std::process::Abort;
 use std::test::Fail;
-
-fn record(p: i32, q: i32, cause: u8) -> Record {
-    Record {
-        direction: Direction { p, q },
-        cause,
-    }
-}
 
 fn word(value: u16) -> SumWord {
     SumWord { value }
@@ -37,19 +31,24 @@ fn load(
 fn peel(
     mut tile: Peeling,
     plan: &Plan,
-    picture: &mut [SumWord],
-    sums: &mut [SumWord],
-    marks: &mut [u8],
-    counts: &mut [u8],
-    queue: &mut [u16],
+    tables: &mut Tables<SumWord>,
     grants: &mut [u16],
 ) -> Result<Peeling, Fail> {
-    for i in 0..grants.len() {
-        match tile.take(plan, queue) {
+    for granted in grants.iter_mut() {
+        match tile.take(plan, tables.queue) {
             Err(refused) => return Ok(refused.back),
             Ok((next, grant)) => {
-                grants[i] = grant.position;
-                match next.settle(grant, plan, picture, marks, sums, counts, queue) {
+                *granted = grant.position;
+                let settled = next.settle(
+                    grant,
+                    plan,
+                    tables.picture,
+                    tables.marks,
+                    tables.sums,
+                    tables.counts,
+                    tables.queue,
+                );
+                match settled {
                     Ok((after, _)) => tile = after,
                     Err(refused) => {
                         let (_, grant) = refused.back;
@@ -63,29 +62,20 @@ fn peel(
     Ok(tile)
 }
 
-// The refusal of finish, and the four cells of the picture where there is none.
+// The four cells of the picture, or why finish refuses.
 fn shown(
     rt: &impl Abort,
     answer: Result<Finished, Refused<Peeling>>,
     picture: &mut [SumWord],
-) -> Result<((usize, usize, usize), [u16; 4]), Fail> {
-    match answer {
-        Ok(tile) => {
-            let cells: &[SumWord] = tile.picture(picture).ok().ok_or("picture")?;
-            assert!(rt; cells.len() == 4);
-            let values = [
-                cells[0].value,
-                cells[1].value,
-                cells[2].value,
-                cells[3].value,
-            ];
-            Ok(((0, 0, 0), values))
-        }
-        Err(refused) => {
-            let told = Refusal::from(refused.fault);
-            Ok(((told.number, told.first, told.second), [0; 4]))
-        }
-    }
+) -> Result<[u16; 4], Fault> {
+    let cells: &[SumWord] = answer?.picture(picture)?;
+    assert!(rt; cells.len() == 4);
+    Ok([
+        cells[0].value,
+        cells[1].value,
+        cells[2].value,
+        cells[3].value,
+    ])
 }
 
 // From open to picture, over tables that hold rubbish.
@@ -94,7 +84,7 @@ fn rebuilt<'a>(
     records: &'a [Record],
     run: &'a [SumWord],
     grants: &mut [u16],
-) -> Result<((usize, usize, usize), [u16; 4]), Fail> {
+) -> Result<Result<[u16; 4], Fault>, Fail> {
     let rack = Rack::new(2, 2, records, run).ok().ok_or("rack")?;
     let mut plan = Plan::fresh();
     let tile = open(&rack, &mut plan).ok().ok_or("open")?;
@@ -112,22 +102,24 @@ fn rebuilt<'a>(
         )
         .ok()
         .ok_or("seal")?;
-    let tile = peel(
-        tile,
-        &plan,
-        &mut picture,
-        &mut sums,
-        &mut marks,
-        &mut counts,
-        &mut queue,
-        grants,
-    )?;
-    shown(rt, tile.finish(&plan, &sums), &mut picture)
+    let mut tables = Tables {
+        picture: &mut picture,
+        marks: &mut marks,
+        sums: &mut sums,
+        counts: &mut counts,
+        queue: &mut queue,
+    };
+    let tile = peel(tile, &plan, &mut tables, grants)?;
+    Ok(shown(rt, tile.finish(&plan, &sums), &mut picture))
 }
 
 #[test]
 fn a_tile_is_rebuilt(rt: HostRuntime) -> Result<(), Fail> {
-    let records = [record(1, 1, 0), record(0, 1, 4), record(-1, 1, 0)];
+    let records = [
+        Record::new(1, 1, 0),
+        Record::new(0, 1, 4),
+        Record::new(-1, 1, 0),
+    ];
     let run = [
         word(2),
         word(5),
@@ -141,7 +133,7 @@ fn a_tile_is_rebuilt(rt: HostRuntime) -> Result<(), Fail> {
     let mut grants = [9; 8];
     assert_eq!(rt;
         rebuilt(&rt, &records, &run, &mut grants)?,
-        ((0, 0, 0), [1, 2, 3, 4])
+        Ok([1, 2, 3, 4])
     );
     assert_eq!(rt; grants, [0, 2, 5, 7, 6, 1, 9, 9]);
     Ok(())
@@ -149,12 +141,12 @@ fn a_tile_is_rebuilt(rt: HostRuntime) -> Result<(), Fail> {
 
 #[test]
 fn a_tile_is_contradicted(rt: HostRuntime) -> Result<(), Fail> {
-    let records = [record(1, 1, 0), record(-1, 1, 0)];
+    let records = [Record::new(1, 1, 0), Record::new(-1, 1, 0)];
     let run = [word(2), word(5), word(3), word(4), word(6), word(1)];
     let mut grants = [9; 8];
     assert_eq!(rt;
         rebuilt(&rt, &records, &run, &mut grants)?,
-        ((15, 1, 1), [0; 4])
+        Err(Fault::LeftOver(1, 1))
     );
     assert_eq!(rt; grants, [0, 2, 3, 5, 4, 1, 9, 9]);
     Ok(())
@@ -165,8 +157,8 @@ fn an_empty_bin_is_read(rt: HostRuntime) -> Result<(), Fail> {
     let run = [word(2), word(9), word(1), word(4), word(0), word(3)];
     let mut grants = [9; 8];
     assert_eq!(rt;
-        rebuilt(&rt, &[record(3, 2, 0)], &run, &mut grants)?,
-        ((15, 0, 1), [0; 4])
+        rebuilt(&rt, &[Record::new(3, 2, 0)], &run, &mut grants)?,
+        Err(Fault::LeftOver(0, 1))
     );
     assert_eq!(rt; grants, [0, 2, 3, 5, 9, 9, 9, 9]);
     Ok(())

@@ -1,16 +1,18 @@
-use Rattle.std.proofs.Common.{◌≡◌, ℕ, Some, None, sym, ◌∙◌, arith}
+use Rattle.std.proofs.Common.{◌≡◌, Some, None, sym, ◌∙◌, subst, rules}
 use Rattle.std.proofs.lemmas.Result.{err_from_is_err_and}
 use Rattle.mojette.specs.Faults.{refusal_of}
 use Rattle.mojette.specs.Refusals.{Refusal}
 use Rattle.law.proofs.Outcome.{law}
 use Rattle.tile.specs.Outcomes.{tables}
+use Rattle.tile.specs.Worlds.{held}
+use Rattle.tile.proofs.Keeping.{as_left}
 use Rattle.runs.specs.Rebuilding.{Rebuilds, unlawful, answer}
 use Rattle.runs.proofs.Endings.{serves_exactly}
 use Rattle.runs.proofs.rebuild.rebuild.Goals as goal
 
 -- no shape is both lawful and refused
 never : (r : Refusal) → None ≡ Some r → ⊥
-never r e = let z : ◌≡◌ {A = ℕ} 0 1 = cc in omega arith
+never r e = cc
 
 pub returns-in_err-tile : goal.returns-in_err-tile
 returns-in_err-tile g c =
@@ -32,11 +34,11 @@ returns g c =
     let K = g.S.Sample.Kind in
     let m = g.S.Source.meaning c.args.source.now in
     let before = tables c.args.picture.now c.args.marks.now c.args.sums.now c.args.counts.now c.args.queue.now in
-    let after = tables c.run.new.picture c.run.new.marks c.run.new.sums c.run.new.counts c.run.new.queue in
+    let left = c.run.new.tables in
     let opens = c.in_ok-tile.ensures in
     record {
-      run = c.run.ensures;
-      exactly = serves_exactly K m before (answer c.run.result) after c.run.ensures;
+      run = subst (Rebuilds K m before (answer c.run.result)) (sym (as_left left (search rules) (search rules) (search rules) (search rules) (search rules))) c.run.ensures.run;
+      exactly = serves_exactly K m before (answer c.run.result) (held left) c.run.ensures.run;
       plan = (λ lawful. opens.1, λ r e. absurd (never r (sym opens.0 ∙ e)));
       law = law K;
     }

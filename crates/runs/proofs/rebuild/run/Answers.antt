@@ -1,98 +1,56 @@
+use Rattle.std.proofs.Common.{Err}
+use Rattle.std.proofs.lemmas.Result.{err_from_is_err_and}
+use Rattle.mojette.specs.Faults.{refusal_of}
 use Rattle.tile.specs.Outcomes.{tables}
-use Rattle.runs.proofs.Endings.{begins, short_refused, first_life, none_loaded, seal_refused, sealed, none_out_yet, criterion_holds, finish_served, finish_refused}
+use Rattle.tile.specs.Worlds.{held}
+use Rattle.runs.proofs.Endings.{short_refused, loads_end, run_unsealed, peels_end, run_served, run_unfinished}
 use Rattle.runs.proofs.rebuild.run.Goals as goal
 
-pub returns-in-Some : goal.returns-in-Some
-returns-in-Some g c =
+pub returns-in_err-check-clause-run : goal.returns-in_err-check-clause-run
+returns-in_err-check-clause-run g c =
     let K = g.S.Sample.Kind in
     let m = g.S.Source.meaning c.args.source.now in
-    let plan = c.args.plan.now in
-    let own = c.requires.own in
-    let before = tables c.args.picture.now c.args.marks.now c.args.sums.now c.args.counts.now c.args.queue.now in
-    short_refused K m plan c.requires.lawful own before c.in-Some.table c.in-Some.ensures
+    let before = held c.args.tables.now in
+    let p = err_from_is_err_and c.from_residual.result c.from_residual.ensures.1 in
+    rw (p.1, p.2) (short_refused K m c.args.plan.now c.requires.lawful c.requires.own before (refusal_of c.in_err-check.field-0.0) c.in_err-check.ensures)
 
 pub unreachable-requires : goal.unreachable-requires
 unreachable-requires g c =
-    let K = g.S.Sample.Kind in
-    let m = g.S.Source.meaning c.args.source.now in
-    let plan = c.args.plan.now in
-    let own = c.requires.own in
-    let before = tables c.args.picture.now c.args.marks.now c.args.sums.now c.args.counts.now c.args.queue.now in
-    let ready = begins K m plan c.requires.lawful own before c.in_default.ensures in
-    let loaded =
-    c.in_default-load_all.ensures own c.args.picture.now c.args.marks.now c.args.counts.now c.args.queue.now _
-    (first_life K m plan c.requires.lawful own before ready c.args.tile c.requires.opened) (none_loaded K m plan c.requires.lawful own before) in
-    loaded
+    loads_end g.S.Sample.Kind (g.S.Source.meaning c.args.source.now) c.args.plan.now c.requires.lawful c.requires.own (held c.args.tables.now) c.in_ok-check.ensures
+    c.args.tile c.requires.opened c.load_all.new.sums (Err c.in_default.field-0) c.in_default.ensures
 
-pub returns-in-Err : goal.returns-in-Err
-returns-in-Err g c =
+pub returns-in_err-tile-clause-run : goal.returns-in_err-tile-clause-run
+returns-in_err-tile-clause-run g c =
     let K = g.S.Sample.Kind in
     let m = g.S.Source.meaning c.args.source.now in
-    let plan = c.args.plan.now in
-    let own = c.requires.own in
-    let before = tables c.args.picture.now c.args.marks.now c.args.sums.now c.args.counts.now c.args.queue.now in
-    let ready = begins K m plan c.requires.lawful own before c.in_default.ensures in
-    let loaded =
-    c.in-Ok.ensures own c.args.picture.now c.args.marks.now c.args.counts.now c.args.queue.now _
-    (first_life K m plan c.requires.lawful own before ready c.args.tile c.requires.opened) (none_loaded K m plan c.requires.lawful own before) in
-    let filled = tables c.args.picture.now c.args.marks.now c.load_all.new.sums c.args.counts.now c.args.queue.now in
-    let begun = tables c.seal.new.picture c.seal.new.marks c.seal.new.sums c.seal.new.counts c.seal.new.queue in
-    seal_refused K m plan own before ready c.in-Ok.tile filled begun loaded.0 loaded.1 loaded.2 c.in-Err.refused c.in-Err.ensures
+    let before = held c.args.tables.now in
+    let t = tables c.seal.new.picture c.seal.new.marks c.seal.new.sums c.seal.new.counts c.seal.new.queue in
+    let p = err_from_is_err_and c.from_residual-in_err-tile.result c.from_residual-in_err-tile.ensures.1 in
+    rw (p.1, p.2) (run_unsealed K m c.args.plan.now c.requires.lawful c.requires.own before c.in_ok-check.ensures c.args.tile c.requires.opened
+    c.load_all.new.sums c.in-Ok.tile c.in-Ok.ensures t c.in_err-tile.field-0.0 c.in_err-tile.ensures)
 
-pub unreachable-requires-in-Err-peel_all : goal.unreachable-requires-in-Err-peel_all
-unreachable-requires-in-Err-peel_all g c =
-    let K = g.S.Sample.Kind in
-    let m = g.S.Source.meaning c.args.source.now in
-    let plan = c.args.plan.now in
-    let own = c.requires.own in
-    let before = tables c.args.picture.now c.args.marks.now c.args.sums.now c.args.counts.now c.args.queue.now in
-    let ready = begins K m plan c.requires.lawful own before c.in_default.ensures in
-    let loaded =
-    c.in-Ok.ensures own c.args.picture.now c.args.marks.now c.args.counts.now c.args.queue.now _
-    (first_life K m plan c.requires.lawful own before ready c.args.tile c.requires.opened) (none_loaded K m plan c.requires.lawful own before) in
-    let filled = tables c.args.picture.now c.args.marks.now c.load_all.new.sums c.args.counts.now c.args.queue.now in
-    let begun = tables c.seal.new.picture c.seal.new.marks c.seal.new.sums c.seal.new.counts c.seal.new.queue in
-    let life = sealed K m plan own before ready c.in-Ok.tile filled begun loaded.0 loaded.1 loaded.2 c.in-Ok-seal.tile c.in-Ok-seal.ensures in
-    let none = none_out_yet K m plan own before ready c.in-Ok.tile filled begun loaded.0 loaded.1 loaded.2 c.in-Ok-seal.tile c.in-Ok-seal.ensures in
-    let peeled = c.in-Err-peel_all.ensures m _ own life none in
-    peeled
+pub unreachable-requires-in-Err : goal.unreachable-requires-in-Err
+unreachable-requires-in-Err g c =
+    let t = tables c.seal.new.picture c.seal.new.marks c.seal.new.sums c.seal.new.counts c.seal.new.queue in
+    peels_end g.S.Sample.Kind (g.S.Source.meaning c.args.source.now) c.args.plan.now c.requires.lawful c.requires.own (held c.args.tables.now) c.in_ok-check.ensures
+    c.args.tile c.requires.opened c.load_all.new.sums c.in-Ok.tile c.in-Ok.ensures t c.in_ok-tile.tile c.in_ok-tile.ensures
+    (Err c.in-Err._held) (held c.peel_all.new.tables) c.in-Err.ensures.peeled
 
-pub returns-in-Ok-finish : goal.returns-in-Ok-finish
-returns-in-Ok-finish g c =
+pub returns-in_err-finish-clause-run : goal.returns-in_err-finish-clause-run
+returns-in_err-finish-clause-run g c =
     let K = g.S.Sample.Kind in
     let m = g.S.Source.meaning c.args.source.now in
-    let plan = c.args.plan.now in
-    let own = c.requires.own in
-    let before = tables c.args.picture.now c.args.marks.now c.args.sums.now c.args.counts.now c.args.queue.now in
-    let ready = begins K m plan c.requires.lawful own before c.in_default.ensures in
-    let loaded =
-    c.in-Ok.ensures own c.args.picture.now c.args.marks.now c.args.counts.now c.args.queue.now _
-    (first_life K m plan c.requires.lawful own before ready c.args.tile c.requires.opened) (none_loaded K m plan c.requires.lawful own before) in
-    let filled = tables c.args.picture.now c.args.marks.now c.load_all.new.sums c.args.counts.now c.args.queue.now in
-    let begun = tables c.seal.new.picture c.seal.new.marks c.seal.new.sums c.seal.new.counts c.seal.new.queue in
-    let life = sealed K m plan own before ready c.in-Ok.tile filled begun loaded.0 loaded.1 loaded.2 c.in-Ok-seal.tile c.in-Ok-seal.ensures in
-    let none = none_out_yet K m plan own before ready c.in-Ok.tile filled begun loaded.0 loaded.1 loaded.2 c.in-Ok-seal.tile c.in-Ok-seal.ensures in
-    let peeled = c.in-Ok-peel_all.ensures m _ own life none in
-    let holds = criterion_holds K m plan own before ready c.in-Ok.tile filled begun loaded.0 loaded.1 loaded.2 c.in-Ok-seal.tile c.in-Ok-seal.ensures in
-    finish_served K m plan own before ready holds c.in-Ok-peel_all.tile c.peel_all.new.picture c.peel_all.new.sums c.peel_all.new.marks
-    c.peel_all.new.counts c.peel_all.new.queue peeled.0 peeled.1 peeled.2 c.in-Ok-finish.tile c.in-Ok-finish.ensures.step c.in-Ok-finish.ensures.cells
+    let before = held c.args.tables.now in
+    let t = tables c.seal.new.picture c.seal.new.marks c.seal.new.sums c.seal.new.counts c.seal.new.queue in
+    let last = held c.peel_all.new.tables in
+    let p = err_from_is_err_and c.from_residual-in_err-finish.result c.from_residual-in_err-finish.ensures.1 in
+    rw (p.1, p.2) (run_unfinished K m c.args.plan.now c.requires.lawful c.requires.own before c.in_ok-check.ensures c.args.tile c.requires.opened
+    c.load_all.new.sums c.in-Ok.tile c.in-Ok.ensures t c.in_ok-tile.tile c.in_ok-tile.ensures c.in-Ok-peel_all.tile last c.in-Ok-peel_all.ensures.peeled
+    c.in_err-finish.field-0.0 c.in_err-finish.ensures.step)
 
-pub returns-in-Err-finish : goal.returns-in-Err-finish
-returns-in-Err-finish g c =
-    let K = g.S.Sample.Kind in
-    let m = g.S.Source.meaning c.args.source.now in
-    let plan = c.args.plan.now in
-    let own = c.requires.own in
-    let before = tables c.args.picture.now c.args.marks.now c.args.sums.now c.args.counts.now c.args.queue.now in
-    let ready = begins K m plan c.requires.lawful own before c.in_default.ensures in
-    let loaded =
-    c.in-Ok.ensures own c.args.picture.now c.args.marks.now c.args.counts.now c.args.queue.now _
-    (first_life K m plan c.requires.lawful own before ready c.args.tile c.requires.opened) (none_loaded K m plan c.requires.lawful own before) in
-    let filled = tables c.args.picture.now c.args.marks.now c.load_all.new.sums c.args.counts.now c.args.queue.now in
-    let begun = tables c.seal.new.picture c.seal.new.marks c.seal.new.sums c.seal.new.counts c.seal.new.queue in
-    let life = sealed K m plan own before ready c.in-Ok.tile filled begun loaded.0 loaded.1 loaded.2 c.in-Ok-seal.tile c.in-Ok-seal.ensures in
-    let none = none_out_yet K m plan own before ready c.in-Ok.tile filled begun loaded.0 loaded.1 loaded.2 c.in-Ok-seal.tile c.in-Ok-seal.ensures in
-    let peeled = c.in-Ok-peel_all.ensures m _ own life none in
-    let holds = criterion_holds K m plan own before ready c.in-Ok.tile filled begun loaded.0 loaded.1 loaded.2 c.in-Ok-seal.tile c.in-Ok-seal.ensures in
-    finish_refused K m plan own before ready holds c.in-Ok-peel_all.tile c.peel_all.new.picture c.peel_all.new.sums c.peel_all.new.marks
-    c.peel_all.new.counts c.peel_all.new.queue peeled.0 peeled.1 peeled.2 c.in-Err-finish.refused c.in-Err-finish.ensures.step
+pub returns-clause-run : goal.returns-clause-run
+returns-clause-run g c =
+    let t = tables c.seal.new.picture c.seal.new.marks c.seal.new.sums c.seal.new.counts c.seal.new.queue in
+    run_served g.S.Sample.Kind (g.S.Source.meaning c.args.source.now) c.args.plan.now c.requires.lawful c.requires.own (held c.args.tables.now) c.in_ok-check.ensures
+    c.args.tile c.requires.opened c.load_all.new.sums c.in-Ok.tile c.in-Ok.ensures t c.in_ok-tile.tile c.in_ok-tile.ensures
+    c.in-Ok-peel_all.tile (held c.peel_all.new.tables) c.in-Ok-peel_all.ensures.peeled c.in_ok-finish.field-0 c.in_ok-finish.ensures.step c.in_ok-finish.ensures.cells

@@ -10,20 +10,20 @@ returns-in_err-tile g c = λ own picture marks counts queue h life zero.
     let K = g.S.Sample.Kind in
     let m = g.S.Source.meaning c.args.source.now in
     let plan = c.args.plan.now in
-    let w = c.loop-i.invariant own picture marks counts queue h life zero in
-    absurd (load_serves K m plan own c.loop-i.tile c.loop-i.sums c.load.new.sums picture marks counts queue w.0 w.1
-    (omega (arith, w.2, c.loop-i-test.true, c.count-i-end.ensures, same_number K m plan own)) c.in_err-tile.field-0.0 c.in_err-tile.ensures)
+    let w = c.loop.invariant own picture marks counts queue h life zero in
+    absurd (load_serves K m plan own c.loop.tile c.loop.sums c.load.new.sums picture marks counts queue w.0 w.1
+    (omega (arith, w.2, c.loop-test.true, c.count-end.ensures, same_number K m plan own)) c.in_err-tile.field-0.0 c.in_err-tile.ensures)
 
-pub loop-i-init : goal.loop-i-init
-loop-i-init g c = λ own picture marks counts queue h life zero. (h, life, zero)
+pub loop-init : goal.loop-init
+loop-init g c = λ own picture marks counts queue h life zero. (h, life, zero)
 
-pub loop-i-preserved : goal.loop-i-preserved
-loop-i-preserved g c = λ own picture marks counts queue h life zero.
+pub loop-preserved : goal.loop-preserved
+loop-preserved g c = λ own picture marks counts queue h life zero.
     let K = g.S.Sample.Kind in
     let m = g.S.Source.meaning c.args.source.now in
-    let w = c.loop-i.invariant own picture marks counts queue h life zero in (
+    let w = c.loop.invariant own picture marks counts queue h life zero in (
       event calls.loads done ∷ w.0,
-      loaded_one K m c.args.plan.now own c.loop-i.tile c.loop-i.sums c.load.new.sums picture marks counts queue w.0 w.1
+      loaded_one K m c.args.plan.now own c.loop.tile c.loop.sums c.load.new.sums picture marks counts queue w.0 w.1
           c.in_ok-tile.tile c.in_ok-tile.ensures,
       loads_more K m w.0 ∙ ap (λ n. n + 1) w.2,
     )
@@ -32,5 +32,5 @@ pub returns : goal.returns
 returns g c = λ own picture marks counts queue h life zero.
     let K = g.S.Sample.Kind in
     let m = g.S.Source.meaning c.args.source.now in
-    let w = c.loop-i.invariant own picture marks counts queue h life zero in
-    (w.0, w.1, omega (arith, w.2, c.loop-i-test.false, c.loop-i.auto.i-end, c.count-i-end.ensures, same_number K m c.args.plan.now own))
+    let w = c.loop.invariant own picture marks counts queue h life zero in
+    (w.0, w.1, omega (arith, w.2, c.loop-test.false, c.loop.auto.counter-end, c.count-end.ensures, same_number K m c.args.plan.now own))

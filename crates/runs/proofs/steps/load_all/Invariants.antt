@@ -6,11 +6,11 @@ use Rattle.law.specs.Steps.{loading}
 use Rattle.tile.specs.Outcomes.{tables}
 use Rattle.runs.proofs.steps.load_all.Given as goal
 
--- From a life with no place loaded there is one with i places loaded.
-abbrev pub invariant-loop-i : goal.invariant-loop-i
-invariant-loop-i g l =
+-- From a life with no place loaded there is one with `counter` places loaded.
+abbrev pub invariant-loop : goal.invariant-loop
+invariant-loop g l =
     let K = g.S.Sample.Kind in
     let m = g.S.Source.meaning l.source in
     shape l.plan ≡ shape_of m → (picture : List g.row.S-Sample.Denot) (marks counts queue : List ℕ) (h : History) →
     Life K m h (loading l.initial.tile.loaded) (tables picture marks l.initial.sums counts queue) → loaded_places h ≡ 0 →
-    (h' : History) × Life K m h' (loading l.tile.loaded) (tables picture marks l.sums counts queue) × (loaded_places h' ≡ l.i)
+    (h' : History) × Life K m h' (loading l.tile.loaded) (tables picture marks l.sums counts queue) × (loaded_places h' ≡ l.counter)

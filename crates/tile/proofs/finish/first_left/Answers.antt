@@ -1,62 +1,61 @@
-use Rattle.std.proofs.Common.{◌+◌, ◌<◌, true, false, length, ap, ◌∙◌, arith, rules}
+use Rattle.std.proofs.Common.{◌+◌, ◌<◌, ◌≤◌, false, length, ap, ◌∙◌, arith, rules}
+use Rattle.std.proofs.lemmas.List.Edits.{length-between, get_or-between}
 use Rattle.mojette.specs.Meaning.{bins_of}
 use Rattle.plan.specs.Laid.{place_at}
 use Rattle.plan.specs.Shapes.{shape}
 use Rattle.walk.proofs.Laying.{turn, all_starts}
-use Rattle.tile.proofs.Leftovers.{read_left, one_more, first_is, none_left}
+use Rattle.tile.proofs.Leftovers.{read_left, first_is, none_left}
 use Rattle.tile.proofs.finish.first_left.Goals as goal
 
-pub overflow_add-place : goal.overflow_add-place
-overflow_add-place g c =
+pub overflow_add-own : goal.overflow_add-own
+overflow_add-own g c =
     let plan = c.args.plan.now in
     let t = turn plan c.places-places.result.now c.loop-i.i c.places-places.ensures c.loop-i-test.true in
-    let few : (place_at c.places-places.result.now c.loop-i.i).start + c.loop-b.b < 65536 = omega (arith, t.inside, plan.few_bins, c.loop-b-test.true) in
+    let x = place_at c.places-places.result.now c.loop-i.i in
+    let few : x.start + x.bins < 65536 = omega (arith, t.inside, plan.few_bins) in
     search rules
 
 pub offset_bounds-sums-place : goal.offset_bounds-sums-place
 offset_bounds-sums-place g c =
     let plan = c.args.plan.now in
     let t = turn plan c.places-places.result.now c.loop-i.i c.places-places.ensures c.loop-i-test.true in
-    omega (arith, t.inside, plan.full, c.requires, c.loop-b-test.true)
+    omega (arith, t.inside, plan.full, c.requires)
 
-pub bounds-sums-place : goal.bounds-sums-place
-bounds-sums-place g c =
+pub slice_bounds-own-end : goal.slice_bounds-own-end
+slice_bounds-own-end g c =
     let plan = c.args.plan.now in
     let t = turn plan c.places-places.result.now c.loop-i.i c.places-places.ensures c.loop-i-test.true in
-    omega (arith, t.inside, plan.full, c.requires, c.loop-b-test.true)
-
-pub loop-b-init : goal.loop-b-init
-loop-b-init g c =
-    let t = turn c.args.plan.now c.places-places.result.now c.loop-i.i c.places-places.ensures c.loop-i-test.true in
-    λ x l. c.loop-i.invariant x (omega (arith, t.starts))
-
-pub loop-b-preserved : goal.loop-b-preserved
-loop-b-preserved g c =
-    let plan = c.args.plan.now in
-    let t = turn plan c.places-places.result.now c.loop-i.i c.places-places.ensures c.loop-i-test.true in
-    let at = (place_at c.places-places.result.now c.loop-i.i).start + c.loop-b.b in
-    let here = read_left g.K.Kind c.args.sums.now at c.index-sums-place.result c.zero_sample-zero.result true
-    (omega (arith, t.inside, plan.full, c.requires, c.loop-b-test.true)) c.index-sums-place.is c.zero_sample-zero.ensures c.if-not-same.ensures in
-    λ x l. one_more g.K.Kind c.args.sums.now at c.loop-b.invariant here x (omega arith)
+    let x = place_at c.places-places.result.now c.loop-i.i in
+    let fits : x.start + x.bins ≤ length c.args.sums.now = omega (arith, t.inside, plan.full, c.requires) in
+    search rules
 
 pub loop-i-preserved : goal.loop-i-preserved
 loop-i-preserved g c =
-    let t = turn c.args.plan.now c.places-places.result.now c.loop-i.i c.places-places.ensures c.loop-i-test.true in
-    λ x l. c.loop-b.invariant x (omega (arith, t.next, c.loop-b-test.false))
+    let plan = c.args.plan.now in
+    let sums = c.args.sums.now in
+    let t = turn plan c.places-places.result.now c.loop-i.i c.places-places.ensures c.loop-i-test.true in
+    let place = place_at c.places-places.result.now c.loop-i.i in
+    let fits : place.start + place.bins ≤ length sums = omega (arith, t.inside, plan.full, c.requires) in
+    let all : place.bins ≤ c.loop-b.b = omega (arith, length-between sums place.start (place.start + place.bins) fits, c.loop-b-test.false) in
+    λ x l. c.loop-b.invariant x (omega (arith, t.next, t.starts))
 
 pub returns-then-not-same : goal.returns-then-not-same
 returns-then-not-same g c =
     let plan = c.args.plan.now in
+    let sums = c.args.sums.now in
     let t = turn plan c.places-places.result.now c.loop-i.i c.places-places.ensures c.loop-i-test.true in
-    let at = (place_at c.places-places.result.now c.loop-i.i).start + c.loop-b.b in
-    let inside : at < bins_of (shape plan) = omega (arith, t.inside, plan.full, c.loop-b-test.true) in
-    let here = read_left g.K.Kind c.args.sums.now at c.index-sums-place.result c.zero_sample-zero.result false
-    (omega (arith, inside, c.requires)) c.index-sums-place.is c.zero_sample-zero.ensures c.if-not-same.ensures in
-    let first = first_is g.K.Kind c.args.sums.now (bins_of (shape plan)) at inside here c.loop-b.invariant in
+    let place = place_at c.places-places.result.now c.loop-i.i in
+    let at = place.start + c.loop-b.b in
+    let fits : place.start + place.bins ≤ length sums = omega (arith, t.inside, plan.full, c.requires) in
+    let within : c.loop-b.b < place.bins = omega (arith, length-between sums place.start (place.start + place.bins) fits, c.loop-b-test.true) in
+    let inside : at < bins_of (shape plan) = omega (arith, t.inside, plan.full) in
+    let here = read_left g.K.Kind sums at c.index-own-b.result c.zero_sample-zero.result false (omega arith)
+    (c.index-own-b.is ∙ get_or-between sums place.start (place.start + place.bins) c.loop-b.b c.index-own-b.result (omega arith)) c.zero_sample-zero.ensures c.if-not-same.ensures in
+    let first = first_is g.K.Kind sums (bins_of (shape plan)) at inside here (λ y m. c.loop-b.invariant y (omega (arith, t.starts))) in
     record {
       known = t.known;
       position = first ∙ ap (λ x. x.start + c.loop-b.b) t.same;
-      inside = omega (arith, ap (λ x. x.bins) t.same, c.loop-b-test.true);
+      inside = omega (arith, ap (λ x. x.bins) t.same);
     }
 
 pub returns-after-loop-i : goal.returns-after-loop-i

@@ -1,10 +1,9 @@
-use Rattle.std.proofs.Common.{refl}
-use Rattle.law.proofs.Writing.{filled_none}
-use Rattle.tile.proofs.Sealing.{fill_more}
+use Rattle.std.proofs.Common.{◌≡◌, refl, ◌∙◌, rules, length-take-le}
+use Rattle.tile.proofs.Constants.{constant, filled_with}
 use Rattle.tile.proofs.seal.fill.Goals as goal
 
-pub loop-c-init : goal.loop-c-init
-loop-c-init g c = filled_none (λ _. c.args.value) c.args.cells.now
-
-pub loop-c-preserved : goal.loop-c-preserved
-loop-c-preserved g c = fill_more c.loop-c.c (λ _. c.args.value) c.args.cells.now c.loop-c.cells c.args.value c.loop-c.invariant refl
+pub returns : goal.returns
+returns g c =
+    let v = c.args.value in
+    let same = constant _ (λ p. p.0.now ≡ v) v (λ p x q h called. search rules) _ c.fill_with.new.self _ refl c.fill_with.ensures.ran.1 in
+    filled_with c.args.n v c.args.cells.now c.fill_with.new.self c.requires same (c.fill_with.ensures.len ∙ length-take-le c.args.n c.args.cells.now c.requires)

@@ -1,44 +1,15 @@
-use Rattle.tile.specs.Outcomes.{tables}
-use Rattle.tile.proofs.Leftovers.{finish_short, finish_missing, finish_out, finish_left, finish_served}
+use Rattle.std.proofs.Common.{arith}
+use Rattle.std.proofs.lemmas.Bool.Decides.{nat_tests}
+use Rattle.mojette.specs.Meaning.{bins_of}
+use Rattle.peeling.specs.Steps.{first_left_over, finish_answers}
+use Rattle.plan.specs.Shapes.{shape}
+use Rattle.law.specs.Steps.{short_sums, finish}
+use Rattle.tile.proofs.Leftovers.{stands_at}
 use Rattle.tile.proofs.states.Peeling.finish.Goals as goal
 
-pub returns-then-sums-total : goal.returns-then-sums-total
-returns-then-sums-total g c = record {
-  step = λ picture marks counts queue.
-      finish_short g.K.Kind c.args.plan.now c.args.self.state (tables picture marks c.args.sums.now counts queue)
-      c.total.result c.total.ensures.value c.if-sums-total.true;
-  cells = tt;
-}
-
-pub returns-then-left-gt0 : goal.returns-then-left-gt0
-returns-then-left-gt0 g c = record {
-  step = λ picture marks counts queue.
-      finish_missing g.K.Kind c.args.plan.now c.args.self.state (tables picture marks c.args.sums.now counts queue)
-      c.total.result c.total.ensures.value c.if-sums-total.false c.if-left-gt0.true;
-  cells = tt;
-}
-
-pub returns-then-out-gt0 : goal.returns-then-out-gt0
-returns-then-out-gt0 g c = record {
-  step = λ picture marks counts queue.
-      finish_out g.K.Kind c.args.plan.now c.args.self.state (tables picture marks c.args.sums.now counts queue)
-      c.total.result c.total.ensures.value c.if-sums-total.false c.if-left-gt0.false c.if-out-gt0.true;
-  cells = tt;
-}
-
-pub returns-in-Some : goal.returns-in-Some
-returns-in-Some g c = record {
-  step = λ picture marks counts queue.
-      finish_left g.K.Kind c.args.plan.now c.args.self.state (tables picture marks c.args.sums.now counts queue)
-      c.total.result c.total.ensures.value c.if-sums-total.false c.if-left-gt0.false c.if-out-gt0.false
-      c.in-Some.i c.in-Some.b c.in-Some.ensures;
-  cells = tt;
-}
-
-pub returns : goal.returns
-returns g c = record {
-  step = λ picture marks counts queue.
-      finish_served g.K.Kind c.args.plan.now c.args.self.state (tables picture marks c.args.sums.now counts queue)
-      c.total.result c.total.ensures.value c.if-sums-total.false c.if-left-gt0.false c.if-out-gt0.false c.in_default.ensures;
-  cells = c.pixels.ensures;
-}
+pub returns-in-Some-clause-step : goal.returns-in-Some-clause-step
+unfolding finish short_sums finish_answers
+returns-in-Some-clause-step g c picture marks counts queue =
+    let plan = c.args.plan.now in
+    let at = stands_at plan (first_left_over g.K.Kind (bins_of (shape plan)) c.args.sums.now) c.in-Some.i c.in-Some.b c.in-Some.ensures in
+    grind (arith, nat_tests, at.place, at.bin, at.inside)

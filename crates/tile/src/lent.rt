@@ -1,0 +1,12 @@
+// The caller's tables as the calls work on them. A file of its own, so that `specs/` can name the type.
+
+// The five tables, lent for one call. Where one is only read, it first gets a name of its own, as `let queue = &mut *tables.queue;`:
+// of a field that is passed as a `&`, no cell is known afterwards.
+#[derive(Drop)]
+pub struct Tables<'a, K> {
+    pub picture: &'a mut [K],
+    pub marks: &'a mut [u8],
+    pub sums: &'a mut [K],
+    pub counts: &'a mut [u8],
+    pub queue: &'a mut [u16],
+}
