@@ -1,6 +1,6 @@
 -- The pixel that is found, as the contracts say it.
 use Rattle.std.proofs.Common.{◌≡◌, ℕ, ◌*◌, ◌<◌, ◌≤◌, Bool, true, false, cond, ◌&&◌, eqb, ltb, List, length, get_or, Some, None, Option, sym, ap, ◌∙◌, arith}
-use Rattle.std.proofs.lemmas.Bool.{cond-true, cond-false, and_from, and_left, and_right, eq-eqb, ne_eqb, lt-ltb, le-ltb, le-leb, lt-leb}
+use Rattle.std.proofs.lemmas.Bool.{cond-true, cond-false, and_from, and_left, and_right, ne_eqb, lt-ltb, le-ltb, le-leb, lt-leb}
 use Rattle.mojette.specs.Bins.{in_bin, whole}
 use Rattle.mojette.specs.Meaning.{Shape, pixels_of, bins_of}
 use Rattle.peeling.specs.Counting.{number}

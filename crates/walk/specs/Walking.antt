@@ -6,10 +6,11 @@ use Rattle.walk.specs.declared.line.Line.{Line}
 use Rattle.walk.specs.declared.pixel.Pixel.{Pixel}
 use Rattle.walk.specs.Finding.{alone}
 
--- the pixel at x and y
+-- the row at y
 abbrev pub row_at : Line → ℕ → ℕ
 row_at l y = turned l.place.leftward l.size.rows y
 
+-- the pixel at x and y
 abbrev pub pixel_at : Line → ℕ → ℕ → Pixel
 pixel_at l x y = record {
   column = l.size.columns - 1 - x;

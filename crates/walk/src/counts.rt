@@ -84,8 +84,7 @@ pub fn count_pixels(plan: &Plan, counts: &mut [u8]) -> Result<(), Fault>
         return Err(Fault::ShortTable(Table::Counts));
     }
     let size = plan.size();
-    let places = plan.places();
-    for place in places {
+    for place in plan.places() {
         count_place(size, *place, counts);
     }
     Ok(())

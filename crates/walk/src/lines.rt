@@ -67,7 +67,7 @@ impl Line {
     {
         let (mut x, mut y) = self.first()?;
         let mut lone = None;
-        // Two numbers step in a loop: with an iterator over the pixels a whole tile took a seventh longer to rebuild.
+        // Two numbers step in a loop: with an iterator over the pixels the search took a fifth longer.
         loop {
             let pixel = self.pixel(x, y);
             if marks[pixel.cell] == 0 {

@@ -15,8 +15,7 @@ pub fn place_of(plan: &Plan, at: usize) -> Option<(usize, usize)>
     ensures is { result ≡ standing (shape plan.now) at }
     ensures stands { MatchOption result (bins_of (shape plan.now) ≤ at) (λ w. Stands plan.now at w.0 w.1) }
 {
-    let places = plan.places();
-    for (i, place) in places.iter().enumerate() {
+    for (i, place) in plan.places().iter().enumerate() {
         if at < place.start + place.bins {
             return Some((i, at - place.start));
         }

@@ -18,27 +18,23 @@ pub count_place-requires : goal.count_place-requires
 count_place-requires c =
     let plan = c.args.plan.now in
     let i = c.loop-place.place-index in
-    laid_within plan i (subst (λ ys. i < length ys) c.places-places.ensures c.loop-place-test.true) c.size-size.result.columns c.size-size.result.rows
-    (nth c.places-places.result.now i) c.size-size.ensures.columns c.size-size.ensures.rows (ap (λ ys. nth ys i) c.places-places.ensures)
+    laid_within plan i (subst (λ ys. i < length ys) c.places-place-items.ensures c.loop-place-test.true) c.size-size.result.columns c.size-size.result.rows
+    (nth c.places-place-items.result.now i) c.size-size.ensures.columns c.size-size.ensures.rows (ap (λ ys. nth ys i) c.places-place-items.ensures)
     (length c.loop-place.counts) (omega (arith, c.total.ensures.value, c.if-counts-total.false, c.loop-place.auto.counts))
 
 pub loop-place-preserved : goal.loop-place-preserved
 loop-place-preserved c =
     let plan = c.args.plan.now in
     let i = c.loop-place.place-index in
-    one_place_more plan i (subst (λ ys. i < length ys) c.places-places.ensures c.loop-place-test.true) c.size-size.result.columns c.size-size.result.rows
-    (nth c.places-places.result.now i) c.size-size.ensures.columns c.size-size.ensures.rows (ap (λ ys. nth ys i) c.places-places.ensures)
+    one_place_more plan i (subst (λ ys. i < length ys) c.places-place-items.ensures c.loop-place-test.true) c.size-size.result.columns c.size-size.result.rows
+    (nth c.places-place-items.result.now i) c.size-size.ensures.columns c.size-size.ensures.rows (ap (λ ys. nth ys i) c.places-place-items.ensures)
     c.args.counts.now c.loop-place.counts c.count_place.new.counts c.loop-place.invariant c.count_place.ensures
 
-pub returns : goal.returns
-returns c =
+pub returns-clause-counts : goal.returns-clause-counts
+returns-clause-counts c =
     let plan = c.args.plan.now in
-    let e = ap length c.places-places.ensures in
+    let e = ap length c.places-place-items.ensures in
     let all = all_starts plan c.loop-place.place-index (omega (arith, c.loop-place.auto.place-index-end)) (omega (arith, c.loop-place-test.false)) in
-    let long = le-ltb (length c.args.counts.now) (bins_of (shape plan)) (omega (arith, c.total.ensures.value, c.if-counts-total.false)) in
-    record {
-      answer = sym (cond-false _ _ _ long);
-      counts = c.loop-place.invariant
-          ∙ ap (λ n. filled n (λ x. number (pixels_of (shape plan)) (λ k. (incidence (shape plan)).lies k x)) c.args.counts.now) all
-          ∙ sym (cond-false _ _ _ long);
-    }
+    c.loop-place.invariant
+    ∙ ap (λ n. filled n (λ x. number (pixels_of (shape plan)) (λ k. (incidence (shape plan)).lies k x)) c.args.counts.now) all
+    ∙ sym (cond-false _ _ _ (le-ltb (length c.args.counts.now) (bins_of (shape plan)) (omega (arith, c.total.ensures.value, c.if-counts-total.false))))

@@ -10,19 +10,19 @@ use Rattle.walk.proofs.lookups.place_of.Goals as goal
 pub overflow_add-place : goal.overflow_add-place
 overflow_add-place c =
     let plan = c.args.plan.now in
-    let ys = c.places-places.result.now in
-    let t = turn plan ys c.loop-i.i c.places-places.ensures c.loop-i-test.true in
+    let ys = c.places-place-items.result.now in
+    let t = turn plan ys c.loop-i.i c.places-place-items.ensures c.loop-i-test.true in
     let m : (nth ys c.loop-i.i).start + (nth ys c.loop-i.i).bins < 65536 = omega (arith, t.inside, plan.few_bins) in
     search rules
 
 pub returns-then-at-place-clause-is : goal.returns-then-at-place-clause-is
 returns-then-at-place-clause-is c =
     let plan = c.args.plan.now in
-    let ys = c.places-places.result.now in
+    let ys = c.places-place-items.result.now in
     let i = c.loop-i.i in
     let at = c.args.at in
     let b = at - (nth ys i).start in
-    let t = turn plan ys i c.places-places.ensures c.loop-i-test.true in
+    let t = turn plan ys i c.places-place-items.ensures c.loop-i-test.true in
     let x = nth (places_of plan) i in
     let start = ap (λ z. z.start) t.same in
     let size = ap (λ z. z.bins) t.same in
@@ -34,12 +34,12 @@ returns-then-at-place-clause-is c =
 
 pub loop-i-preserved : goal.loop-i-preserved
 loop-i-preserved c =
-    let t = turn c.args.plan.now c.places-places.result.now c.loop-i.i c.places-places.ensures c.loop-i-test.true in
+    let t = turn c.args.plan.now c.places-place-items.result.now c.loop-i.i c.places-place-items.ensures c.loop-i-test.true in
     omega (arith, t.next, c.if-at-place.false)
 
 pub returns : goal.returns
 returns c =
     let plan = c.args.plan.now in
-    let e = ap length c.places-places.ensures in
+    let e = ap length c.places-place-items.ensures in
     let all = all_starts plan c.loop-i.i (omega (arith, c.loop-i.auto.i-end)) (omega (arith, c.loop-i-test.false)) in
     record { is = stands_nowhere (shape plan) c.args.at (omega (arith, c.loop-i.invariant)); stands = omega (arith, c.loop-i.invariant) }
