@@ -4,7 +4,7 @@ use Rattle.std.proofs.lemmas.Bool.{cases_lt, cond-true, cond-false, lt-ltb, le-l
 use Rattle.mojette.specs.Meaning.{Shape}
 use Rattle.law.specs.Steps.{Tables, short}
 use Rattle.law.specs.Life.{LongEnough}
-use Rattle.tile.specs.Worlds.{short_refusal}
+use Rattle.tile.specs.Worlds.{short_refusal, refusal_at}
 
 none_short : (n : ℕ) → None ≡ short_refusal n → n ≡ 0
 none_short zero e = refl
@@ -28,3 +28,10 @@ all_long shape t e =
     let d = past _ _ _ _ c.1 in
     let f = past _ _ _ _ d.1 in
     record { picture = a.0; marks = b.0; sums = c.0; counts = d.0; queue = f.0 }
+
+pub all_long_at : {S : Type 0} (shape : Shape) (t : Tables S) (at : ℕ) → None ≡ refusal_at shape at (short shape t) → LongEnough shape t
+all_long_at shape t at e = all_long shape t (go (short shape t) e)
+  where
+    go : (n : ℕ) → None ≡ refusal_at shape at n → None ≡ short_refusal n
+    go zero e = refl
+    go (suc n) e = e

@@ -1,5 +1,6 @@
 -- What code that is lent the tables says of them.
-use Rattle.std.specs.Prelude.{◌≡◌, ℕ, zero, suc, length, Some, None, Option}
+use Rattle.std.specs.Prelude.{◌≡◌, ℕ, zero, suc, cond, length, Some, None, Option, nat_le}
+use Rattle.mojette.specs.Meaning.{Shape, bins_of}
 use Rattle.mojette.specs.Refusals.{Refusal, refusal}
 use Rattle.law.specs.Steps.{Tables}
 use Rattle.tile.specs.declared.lent.Tables.{Tables as Lent}
@@ -25,3 +26,8 @@ pub record StillLent {S : Type 0} (t t' : Lent S) : Type 0 where
 abbrev pub short_refusal : ℕ → Option Refusal
 short_refusal zero = None
 short_refusal (suc k) = Some (refusal 5 (suc k) 0 0)
+
+-- the same, and then the refusal of a position that the plan does not have
+abbrev pub refusal_at : Shape → ℕ → ℕ → Option Refusal
+refusal_at shape at zero = cond (nat_le (bins_of shape) at) (Some (refusal 12 0 0 0)) None
+refusal_at shape at (suc k) = short_refusal (suc k)

@@ -13,7 +13,6 @@ ghost use Rattle.tile.specs.Worlds.{StillLent, held};
 use crate::lent::Tables;
 use crate::peel::take_off_all;
 use crate::states::{Grant, Peeling, Refused};
-use mojette::Fault;
 use peeling::State;
 use plan::Plan;
 use samples::Kind;
@@ -48,7 +47,7 @@ fn peel_bin<K: Kind>(
 
 impl Peeling {
     // Spends a grant. The answer is the cell of the pixel that is found, or none, and how many pixels are missing.
-    #[tactic(auto, using(std::proofs::lemmas::Bool::Decides::nat_tests, crate::proofs::Checks::all_long), unfolding(law::specs::Steps::settle, peeling::specs::Steps::spent))]
+    #[tactic(auto, using(std::proofs::lemmas::Bool::Decides::nat_tests, crate::proofs::Checks::all_long_at), unfolding(law::specs::Steps::settle, peeling::specs::Steps::spent))]
     pub fn settle<K: Kind>(
         self,
         grant: Grant,
@@ -69,17 +68,11 @@ impl Peeling {
             counts,
             queue,
         };
-        if let Err(fault) = tables.check(plan) {
+        let at = grant.position as usize;
+        if let Err(fault) = tables.check_at(plan, at) {
             return Err(Refused {
                 back: (self, grant),
                 fault,
-            });
-        }
-        let at = grant.position as usize;
-        if at >= plan.total() {
-            return Err(Refused {
-                back: (self, grant),
-                fault: Fault::BadGrant,
             });
         }
         let Grant { position: _ } = grant;

@@ -3,7 +3,7 @@ ghost use Rattle.std.specs.Prelude.{◌≡◌};
 ghost use Rattle.mojette.specs.Faults.{refused};
 ghost use Rattle.law.specs.Steps.{short};
 ghost use Rattle.plan.specs.Shapes.{shape};
-ghost use Rattle.tile.specs.Worlds.{held, short_refusal};
+ghost use Rattle.tile.specs.Worlds.{held, short_refusal, refusal_at};
 
 use crate::lent::Tables;
 use mojette::{Fault, Table};
@@ -29,6 +29,18 @@ impl<K> Tables<'_, K> {
             Err(Fault::ShortTable(Table::Queue))
         } else {
             Ok(())
+        }
+    }
+
+    // Refuses where a table is too short, and then where the plan has no such position.
+    pub(crate) fn check_at(&self, plan: &Plan, at: usize) -> Result<(), Fault>
+        ensures { refused result ≡ refusal_at (shape plan.now) at (short (shape plan.now) (held self.now)) }
+    {
+        self.check(plan)?;
+        if at < plan.total() {
+            Ok(())
+        } else {
+            Err(Fault::BadGrant)
         }
     }
 }
