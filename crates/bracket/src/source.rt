@@ -20,7 +20,8 @@ use samples::codes::read_code;
 use std::marker::PhantomData;
 
 impl Layout {
-    // Reads a text of any content and length as a file of a kind of sample.
+    // Reads a text of any content and length as a file of a kind of sample. What is asked of the kind's name stands in clauses from
+    // here down: as a law of `Coded` it would be asked of kinds too whose name no file has.
     pub fn of<K: Coded>(text: &[u8]) -> Result<Layout, Fault>
         requires { IsWord K.Coded.name }
         ensures { layout_outcome K.Kind K.Coded.own text.now result ≡ asked_file (read_file K.Coded.own text.now) }

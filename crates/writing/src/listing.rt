@@ -10,7 +10,8 @@ use crate::writer::{Writer, line_len};
 use mojette::{Fault, Record, Refusal, Size, Table};
 use samples::Coded;
 
-// A tile that begins with a word, with lines for the lost places among some records.
+// A tile that begins with a word, with lines for the lost places among some records. The bound of the name's length is a clause:
+// as a law of `Coded` it would be asked of kinds too whose name is never written.
 fn write_tile<K: Coded>(
     out: &mut [u8],
     word: &[u8],
