@@ -33,7 +33,10 @@ impl From<fmt::Error> for Failure {
 }
 
 // Numbers, each after a space.
-pub fn show_numbers<I: Iterator<Item = u64>>(out: &mut String, numbers: I) -> Result<(), Failure>
+pub(crate) fn show_numbers<I: Iterator<Item = u64>>(
+    out: &mut String,
+    numbers: I,
+) -> Result<(), Failure>
     requires { I.can_next numbers × IsFinite (I.remaining numbers) }
 {
     for number in numbers {
