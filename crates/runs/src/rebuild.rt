@@ -38,6 +38,7 @@ fn run<S: Source>(
         tables.counts,
         tables.queue,
     )?;
+    // A match, since `let .. else` would let a grant go.
     let tile = match peel_all(tile, plan, tables) {
         Ok(tile) => tile,
         Err(_held) => unreachable(),
