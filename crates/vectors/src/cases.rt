@@ -108,7 +108,7 @@ fn case_of<K: Coded>(
         "project" => project_case::<K>(alloc, words, out),
         "ghost" => ghost_case::<K>(alloc, words, out),
         _ => match words.word() {
-            "0" => strip_case(alloc, words, out),
+            "0" | "" => strip_case(alloc, words, out),
             "1" => sizes_case::<K>(alloc, words, out),
             "2" => place_case::<K>(alloc, words, out),
             _ => bin_case::<K>(alloc, words, out),
@@ -122,7 +122,7 @@ pub fn answer(alloc: Global, line: &str) -> anyhow::Result<String> {
     let mut out = String::new(alloc);
     let set = words.word();
     let answered = match words.word() {
-        "0" => case_of::<SumWord>(alloc, set, &mut words, &mut out),
+        "0" | "" => case_of::<SumWord>(alloc, set, &mut words, &mut out),
         "1" => case_of::<XorWord>(alloc, set, &mut words, &mut out),
         _ => case_of::<Pair<SumWord, XorWord>>(alloc, set, &mut words, &mut out),
     };

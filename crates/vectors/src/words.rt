@@ -44,8 +44,11 @@ impl<'a> Words<'a> {
 
     fn record(&mut self) -> Record {
         let direction = self.direction();
-        let cause = self.number();
-        Record { direction, cause }
+        let cause = self.number::<u64>() % 256;
+        Record {
+            direction,
+            cause: cause as u8,
+        }
     }
 
     // A list: how many items, and then each.
@@ -73,6 +76,6 @@ impl<'a> Words<'a> {
     }
 
     pub fn cells(&mut self, alloc: Global) -> Result<Vec<u16>, AllocError> {
-        self.list(alloc, |words| words.number())
+        self.list(alloc, |words| (words.number::<u64>() % 65_536) as u16)
     }
 }
