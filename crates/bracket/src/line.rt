@@ -32,7 +32,7 @@ pub(crate) struct Line {
     pub held: Held,
 }
 
-// The lines of the places: the first `count` of a table, which needs no heap.
+// The lines of the places: the first `count` of a table, which is copied, as no vector is.
 #[derive(Clone, Copy)]
 pub(crate) struct Lines {
     pub table: [Line; MOST_PLACES],

@@ -18,6 +18,7 @@ impl<'a> Lexer<'a> {
     fn skip_codes<K: Coded>(&mut self, count: usize) -> Result<(), TextFault>
         ensures { ReadsAs (λ _. found_from K.Kind K.Coded.own self.old.text.now self.old.at count) (λ n. codes_reader K.Coded.own n count) self.old result self.new }
     {
+        // So many turns: the codes are not in a list.
         for _i in 0..count {
             self.mark(Mark::Space)?;
             let _ = self.code::<K>()?;

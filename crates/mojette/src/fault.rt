@@ -75,7 +75,8 @@ pub enum Fault {
     Oversize,
 }
 
-// A refusal by its number, with the three values that it tells: 0 where it tells nothing.
+// A refusal by its number, with the three values that it tells: 0 where it tells nothing. These are the numbers that docs/REFUSALS.md gives
+// and files show; code tells refusals apart by `Fault`.
 #[derive(Clone, Copy, Debug, PartialEq, Eq)]
 pub struct Refusal {
     pub number: usize,

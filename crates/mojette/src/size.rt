@@ -2,7 +2,7 @@
 ghost use Rattle.std.specs.Prelude.{◌≡◌, ◌≤◌, true};
 ghost use Rattle.mojette.specs.Meaning.{side_ok};
 
-// So many columns and rows as a tile may have.
+// So many columns and rows as a tile may have. How long a table is beside it is asked by clauses, since tables are the callers'.
 #[derive(Clone, Copy, Debug, PartialEq, Eq)]
 pub struct Size {
     pub columns: usize,

@@ -1,11 +1,10 @@
 -- What code that goes place by place needs of the steps, which go position by position.
-use Rattle.std.proofs.Common.{◌≡◌, ℕ, zero, suc, ◌+◌, ◌-◌, ◌<◌, ◌≤◌, Bool, true, false, cond, ltb, List, get_or, set, sym, refl, ap, ◌∙◌, ⊎_elim, arith}
-use Rattle.std.proofs.lemmas.Bool.{cases_eq, cases_lt, cases_order, both_ways, cond-true, cond-false, ltb-false, eq-eqb, ne_eqb}
+use Rattle.std.proofs.Common.{◌≡◌, ℕ, zero, suc, ◌+◌, ◌-◌, ◌<◌, ◌≤◌, Bool, true, false, cond, ltb, refl, ap, ◌∙◌, ⊎_elim, arith}
+use Rattle.std.proofs.lemmas.Bool.{cases_eq, cases_lt, cases_order, both_ways, cond-true, cond-false, ltb-false}
 use Rattle.samples.specs.declared.kind.Kind.{Ghosts as Operations}
 use Rattle.peeling.specs.Counting.{number, least}
 use Rattle.peeling.specs.Incidence.{Incidence}
-use Rattle.peeling.specs.declared.state.State.{State}
-use Rattle.peeling.specs.Steps.{World, world, appended, queue_with, append, lowered, take_off, take_off_all}
+use Rattle.peeling.specs.Steps.{World, take_off, take_off_all}
 use Rattle.peeling.proofs.Counts.{number_alone, least_le, least_passes, least_none, least_some}
 
 -- none below the least index passes
@@ -76,17 +75,3 @@ module _ {A : Type 0} (K : Operations A) (I : Incidence) (c : ℕ) (v : A) (w : 
     where
       parts : (j d i : ℕ) → i < d → j + d ≡ suc (j + i) + (d - suc i)
       parts j d i l = omega arith
-
--- code that takes v off bin b: r is the new sum, n the new count
-module _ {A : Type 0} (K : Operations A) (T : ℕ) (v : A) (b : ℕ) (s : State) (p : List A) (m : List ℕ) (sums : List A) (counts : List ℕ) (queue : List ℕ)
-    (r : A) (n : ℕ) (new_sum : r ≡ K.plus (get_or sums b K.zero) (K.inverse v)) (new-count : n ≡ get_or counts b 0 - 1) where
-  pub take_off_one : (s' : State) (queue' : List ℕ) → n ≡ 1 → s' ≡ appended T s → queue' ≡ queue_with T s b queue →
-      world s' p m (set sums b r) (set counts b n) queue' ≡ take_off K T v b (world s p m sums counts queue)
-  unfolding take_off append lowered
-  take_off_one s' queue' one e f = (λ i. world (e i) p m (set sums b (new_sum i)) (set counts b (new-count i)) (f i))
-      ∙ sym (cond-true _ (append T b (lowered K v b (world s p m sums counts queue))) (lowered K v b (world s p m sums counts queue)) (eq-eqb _ 1 (sym new-count ∙ one)))
-
-  pub take_off_more : (n ≡ 1 → ⊥) → world s p m (set sums b r) (set counts b n) queue ≡ take_off K T v b (world s p m sums counts queue)
-  unfolding take_off lowered
-  take_off_more more = (λ i. world s p m (set sums b (new_sum i)) (set counts b (new-count i)) queue)
-      ∙ sym (cond-false _ (append T b (lowered K v b (world s p m sums counts queue))) (lowered K v b (world s p m sums counts queue)) (ne_eqb _ 1 (λ e. more (new-count ∙ e))))

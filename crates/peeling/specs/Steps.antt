@@ -1,5 +1,5 @@
 -- The peeling state and its five tables, and what each call makes of them.
-use Rattle.std.specs.Prelude.{◌≡◌, ℕ, zero, suc, ◌+◌, ◌-◌, ◌%◌, min, Bool, cond, not, ◌&&◌, List, ◌==◌, nat_lt, slice_index, slice_index_or, slice_set}
+use Rattle.std.specs.Prelude.{ℕ, zero, suc, ◌+◌, ◌-◌, ◌%◌, min, Bool, cond, not, ◌&&◌, List, ◌==◌, nat_lt, slice_index, slice_index_or, slice_set}
 use Rattle.peeling.specs.declared.state.State.{State}
 use Rattle.samples.specs.declared.kind.Kind.{Ghosts as Operations}
 use Rattle.peeling.specs.Counting.{number, least}
@@ -130,11 +130,6 @@ lowered K v b w = record {
 -- The same, and where the count becomes 1, b is appended.
 unfoldable pub take_off : {A : Type 0} → Operations A → ℕ → A → ℕ → World A → World A
 take_off K T v b w = cond (slice_index w.counts b - 1 == 1) (append T b (lowered K v b w)) (lowered K v b w)
-
--- what code that has neither picture nor marks says of `take_off`
-abbrev pub TakenOffBy : {A : Type 0} → Operations A → ℕ → A → ℕ → State → List A → List ℕ → List ℕ → State → List A → List ℕ → List ℕ → Type 0
-TakenOffBy {A} K T v b s sums counts queue s' sums' counts' queue' = (p : List A) (m : List ℕ) →
-    world s' p m sums' counts' queue' ≡ take_off K T v b (world s p m sums counts queue)
 
 -- pixel c takes the value v, and is found
 unfoldable pub placed : {A : Type 0} → ℕ → A → World A → World A

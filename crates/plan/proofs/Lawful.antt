@@ -54,6 +54,3 @@ module _ (plan : Plan) where
   -- Each of the places of a plan has a lawful direction.
   pub place_lawful : (xs : List Place) (i : ℕ) → xs ≡ places_of plan → i < length xs → lawful (direction_of (place_at xs i)) ≡ true
   place_lawful xs i e l = lawful_at xs i l (ap (λ zs. all_lawful (directions (records_of zs))) e ∙ (lawful_directions (shape plan) plan.lawful).each)
-
-  pub plan_sides : (side_ok plan.size.columns ≡ true) × (side_ok plan.size.rows ≡ true)
-  plan_sides = (plan.size.columns_ok, plan.size.rows_ok)

@@ -1,9 +1,9 @@
 -- The ghost, place by place.
-use Rattle.std.proofs.Common.{◌≡◌, ℕ, ◌+◌, ◌*◌, ◌<◌, ◌≤◌, Bool, true, false, cond, List, ◌∷◌, ◌++◌, length, drop, sym, refl, ap, ◌∙◌, subst, ap₂}
+use Rattle.std.proofs.Common.{◌≡◌, ℕ, ◌+◌, ◌*◌, ◌<◌, ◌≤◌, Bool, true, false, cond, List, ◌∷◌, ◌++◌, length, drop, sym, ap, ◌∙◌, subst}
 use Rattle.std.proofs.lemmas.List.{at_drop_more, at_drop_all}
 use Rattle.samples.specs.declared.kind.Kind.{Ghosts as Operations}
 use Rattle.mojette.specs.Bins.{whole, whole_directions}
-use Rattle.katz.specs.Made.{Picture, leftward, start, step, steps, made, ghost_tile}
+use Rattle.katz.specs.Made.{Picture, step, steps, made, ghost_tile}
 use Rattle.plan.specs.declared.places.Place.{Place}
 use Rattle.plan.specs.Laid.{direction_of, record_of, records_of, no_place, place_at}
 use Rattle.plan.specs.Pictures.{picture_of}
@@ -18,11 +18,6 @@ module _ {S : Type 0} (K : Operations S) (P Q : ℕ) where
   pub record MadeOf (xs ys : List Place) (base : List S) (i : ℕ) (cells : List S) : Type 0 where
     pub ahead : steps_of (drop i xs) (picture_of K P Q cells) ≡ made K P Q (whole_directions (records_of ys))
     pub others : drop (P * Q) cells ≡ drop (P * Q) base
-
-  pub makes_start :
-      (xs ys : List Place) (k₀ : ℕ) (cells : List S) → xs ≡ ys → k₀ ≡ leftward (whole_directions (records_of ys))
-      → picture_of K P Q cells ≡ start K k₀ → MadeOf xs ys cells 0 cells
-  makes_start xs ys k₀ cells e is shows = record { ahead = ap₂ steps_of e (shows ∙ ap (start K) is); others = refl }
 
   module _ (xs ys : List Place) (base : List S) (i : ℕ) (l : i < length xs) (old new : List S) (so_far : MadeOf xs ys base i old) where
     -- a place before others, if it is whole

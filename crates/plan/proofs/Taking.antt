@@ -135,9 +135,6 @@ module _ {S : Type 0} (K : Operations S) (P Q : ℕ) where
     pub rest : (c : ℕ) → c < n → get_or new c K.zero ≡ get_or old c K.zero
     pub others : drop (P * Q) new ≡ drop (P * Q) old
 
-  pub none_done : (f : ℕ → S) (old : List S) (n : ℕ) → P * Q ≤ n → DownTo f old n old
-  none_done f old n h = record { done = λ c a b. absurd (omega arith); rest = λ c a. refl; others = refl }
-
   module _ (f : ℕ → S) (old : List S) (new : List S) where
     -- cells that stay
     skipped : (n m : ℕ) → n ≤ m → ((c : ℕ) → n ≤ c → c < m → c < P * Q → f c ≡ get_or old c K.zero) → DownTo f old m new → DownTo f old n new

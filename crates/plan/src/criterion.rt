@@ -10,7 +10,7 @@ use crate::places::Place;
 use crate::plan::Plan;
 use samples::Kind;
 
-// C and R, the sums of |p| and of q over the whole places, and whether P ≤ C or Q ≤ R.
+// C and R, the sums of |p| and of q over the whole places, and whether P ≤ C or Q ≤ R. C and R are told whatever the verdict.
 #[derive(Clone, Copy)]
 pub struct Criterion {
     pub columns: usize,

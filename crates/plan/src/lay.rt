@@ -21,7 +21,7 @@ pub(crate) fn lay(size: Size, entry: Record, start: usize) -> Place
     }
 }
 
-// The cell of the pixel in column k and row l.
+// The cell of the pixel in column k and row l, counted from the top left; walk counts along a line of pixels.
 pub(crate) fn cell_of(size: Size, k: usize, l: usize) -> usize
     requires { (k < size.columns) × (l < size.rows) }
     ensures value { result ≡ l * size.columns + k }

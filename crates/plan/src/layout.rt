@@ -45,6 +45,7 @@ fn lay_out(size: Size, records: &[Record]) -> Plan
     let mut places = [none; MOST_PLACES];
     let mut total = 0;
     for (i, entry) in records.iter().enumerate() {
+        // By index: what is written through a zip of `iter_mut` is not known.
         let place = lay(size, *entry, total);
         places[i] = place;
         total += place.bins;
@@ -58,7 +59,7 @@ fn lay_out(size: Size, records: &[Record]) -> Plan
 }
 
 impl Plan {
-    // The plan of a shape, or why it is not lawful.
+    // The plan of a shape, or why it is not lawful. Any two numbers may be asked for.
     pub fn of(columns: usize, rows: usize, records: &[Record]) -> Result<Plan, Fault>
         ensures { Plans (record { P = columns; Q = rows; records = records.now }) result }
     {
@@ -80,7 +81,7 @@ mod tests {
         Record::new(p, q, 0)
     }
 
-    // The refusal's number and first value; 0 and T where there is a plan.
+    // The refusal's number and first value, which the tests pin; 0 and T where there is a plan.
     fn answer(columns: usize, rows: usize, records: &[Record]) -> (usize, usize) {
         match Plan::of(columns, rows, records) {
             Ok(plan) => (0, plan.total()),

@@ -8,7 +8,7 @@ use crate::places::Place;
 use mojette::{MOST_PLACES, Size};
 
 // The size of a tile, and the places laid out one after another, of which there are `count`; `total` is T, the number of all
-// bins. It stands for a lawful shape. A plan is copied and needs no heap, so that the places are an array beside their count.
+// bins. It stands for a lawful shape. A plan is copied, as no vector is, so that the places are an array beside their count.
 #[derive(Clone, Copy)]
 pub struct Plan {
     pub(crate) size: Size,

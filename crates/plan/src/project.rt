@@ -47,7 +47,7 @@ fn write_sums<K: Kind>(size: Size, direction: Direction, picture: &[K], sums: &m
     add_up(size, place, picture, sums);
 }
 
-// Writes the sums of one direction, and answers how many bins it has.
+// Writes the sums of one direction, and answers how many bins it has. Any two numbers and any direction may be asked for.
 pub fn project<K: Kind>(
     columns: usize,
     rows: usize,
@@ -78,7 +78,7 @@ mod tests {
     use mojette::Refusal;
     use samples::SumWord;
 
-    // The refusal's number and first value; 0 and the bins where the call is served.
+    // The refusal's number and first value, which the tests pin; 0 and the bins where the call is served.
     fn answer(
         columns: usize,
         rows: usize,

@@ -1,4 +1,4 @@
-// The code of a sample, and back.
+// The code of a sample, and back. The two words differ in name, width and type, which are what the trait names.
 ghost use Rattle.std.specs.Prelude.{◌≡◌, ◌<◌, codes as text};
 ghost use Rattle.samples.specs.Codes.{hex_byte, digit_of};
 ghost use Rattle.samples.specs.Codings.{sum_number, sum_coding, xor_number, xor_coding, pair_number, pair_sample, pair_coding};

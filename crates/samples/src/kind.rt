@@ -28,7 +28,7 @@ pub trait Kind: Copy {
     fn negate(self) -> Self
         ensures { result ≡ inverse self };
 
-    // Yes exactly for the same sample.
+    // Yes exactly for the same sample. A kind need not have `==`.
     fn same(self, other: Self) -> bool
         ensures { result ≡ equal self other };
 }

@@ -1,5 +1,4 @@
 pub mod Asking
-pub mod Collecting
 pub mod Cuts
 pub mod Ones
 pub mod Stripping

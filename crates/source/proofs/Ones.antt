@@ -13,9 +13,8 @@ use Rattle.samples.specs.Words.{sum_zero}
 use Rattle.mojette.specs.declared.direction.Direction.{Direction}
 use Rattle.mojette.specs.Bins.{bins, raw_of, in_bin}
 use Rattle.mojette.specs.Directions.{lawful}
-use Rattle.mojette.specs.Faults.{served, refuses}
+use Rattle.mojette.specs.Faults.{served}
 use Rattle.mojette.specs.Meaning.{side_ok}
-use Rattle.mojette.specs.Refusals.{Refusal}
 use Rattle.mojette.specs.Transform.{sample_at, bin_sum, projection}
 use Rattle.plan.specs.Projecting.{projected, projecting}
 use Rattle.plan.proofs.Cells.{side_most}
@@ -61,12 +60,6 @@ module _ (P Q : ℕ) (d : Direction) (picture : List SumWord) where
     served_all =
         cond-false _ _ _ (not_from_true _ (and_from _ _ p q)) ∙ cond-false _ _ _ (not_from_true _ l) ∙ cond-false _ _ _ (le-ltb (length picture) (P * Q) long)
         ∙ cond-false _ _ _ (le-ltb (length sums) (bins P Q d) room)
-
-    pub never_refused : (r : Refusal) (after : List SumWord) → projected (refuses r) after ≡ projecting sum_words P Q d picture sums → ⊥
-    never_refused r after e =
-        let a : refuses r ≡ served (bins P Q d) = ap (λ x. x.answer) (e ∙ served_all) in
-        let z : ◌≡◌ {A = ℕ} 0 1 = cc in
-        omega arith
 
     module _ (n : ℕ) (after : List SumWord) (e : projected (served n) after ≡ projecting sum_words P Q d picture sums) where
       pub bins_counted : n ≡ bins P Q d

@@ -17,7 +17,7 @@ use Rattle.plan.specs.Layouts.{Plans}
 use Rattle.plan.proofs.Cells.{side_most}
 use Rattle.plan.proofs.Layouts.{few_bins}
 use Rattle.source.specs.Questions.{place_at, bins_at, asked_place, asked_bin, checked}
-use Rattle.source.specs.Strips.{pixels_in, mean, mean_at, strip_answer, stripped, strip_leaves, stripping}
+use Rattle.source.specs.Strips.{pixels_in, mean_at, strip_answer, stripped, strip_leaves, stripping}
 use Rattle.source.proofs.Asking.{Found, place_found, place_missed, bin_there}
 use Rattle.source.proofs.Verdicts.{columns_ok, rows_ok, direction_ok}
 
@@ -77,14 +77,6 @@ module _ (m : Meaning SumWord) (i b : ℕ) (inside : i < length m.places) (here 
       let z : ◌≡◌ {A = ℕ} 0 1 = cc in
       omega arith
 
-  pub mean_there :
-      (sum pixels : SumWord) (counts : List SumWord) (r : ℕ) → served sum ≡ asked_bin sum_words m i b → pixels ≡ get_or counts b sum_zero
-      → (get_or counts b sum_zero).value ≡ pixels_in m.P m.Q (place_at m i).entry.direction b → r ≡ mean sum.value pixels.value → r ≡ mean_at m i b
-  mean_there sum pixels counts r a read count is =
-      let s : served sum ≡ served (get_or (place_at m i).sums b sum_zero) = a ∙ bin_there sum_words m i b inside here within in
-      let same : sum ≡ get_or (place_at m i).sums b sum_zero = cc in
-      is ∙ (λ j. mean (same j).value ((ap (λ w. w.value) read ∙ count) j))
-
 -- What the code knows of place i once its source is lawful: P by Q pixels, and its record e.
 pub record Known (m : Meaning SumWord) (i P Q : ℕ) (e : Record) : Type 0 where
   pub lawful_source : verdict (shape_of m) ≡ None
@@ -132,8 +124,5 @@ module _ {m : Meaning SumWord} {i P Q : ℕ} {e : Record} (h : Known m i P Q e) 
     counts_known counts count b l = count b (subst (λ k. b < k) size l) ∙ (λ j. pixels_in (h.columns j) (h.rows j) (is.same j).direction b)
 
     module _ (none : e.cause ≡ 0) (cells : List ℕ) where
-      pub refused_short : length cells < n → stripped (refuses (refusal 21 n 0 0)) cells ≡ stripping m i cells
-      refused_short short = too_short m i cells h.lawful_source e h.answer none n bins_known short
-
       pub served_all : n ≤ length cells → (after : List ℕ) → after ≡ map (mean_at m i) (range_with_len 0 n) ++ drop n cells → stripped (served n) after ≡ stripping m i cells
       served_all room after written = all_written m i cells h.lawful_source e h.answer none n bins_known room after written

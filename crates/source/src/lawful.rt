@@ -16,6 +16,7 @@ pub fn plan_of<S: Source>(source: &S) -> Result<Plan, Fault>
     if count < 1 || count > MOST_PLACES {
         return Err(Fault::PlaceCount);
     }
+    // As many as are asked for, in the first cells of an array: none is allocated.
     let mut records = [Record::new(0, 0, 0); MOST_PLACES];
     let places = &mut records[..count];
     for (i, entry) in places.iter_mut().enumerate() {

@@ -14,7 +14,7 @@ use plan::Plan;
 use samples::Kind;
 
 impl<'a, K: Kind> Rack<'a, K> {
-    // A rack of a lawful shape, with a run of exactly T samples.
+    // A rack of a lawful shape, with a run of exactly T samples. Any two numbers may be asked for.
     pub fn new(
         columns: usize,
         rows: usize,
@@ -38,7 +38,8 @@ fn place_of(records: &[Record], i: usize) -> Result<Record, Fault>
     records.get(i).copied().ok_or(Fault::NoPlace)
 }
 
-// Bin b of place i, in the run of all samples.
+// Bin b of place i, in the run of all samples. (The rack's methods pass its slices on to functions, one of the forms that docs/DECISIONS.md
+// names.)
 fn bin_of<K: Kind>(
     plan: &Plan,
     records: &[Record],

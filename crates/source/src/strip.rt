@@ -44,7 +44,7 @@ fn mean(sum: SumWord, pixels: SumWord) -> u16
     }
 }
 
-// Writes the means of a whole place.
+// Writes the means of a whole place. The counts stand in an array of their own, which is not lent.
 fn write_means<S: Source<Sample = SumWord>>(
     source: &S,
     place: usize,
@@ -80,6 +80,7 @@ pub fn strip<S: Source<Sample = SumWord>>(
     if record.cause != 0 {
         return Err(Fault::Lost(record.cause));
     }
+    // Arrays of the most that a tile has: nothing is allocated.
     let ones = [SumWord { value: 1 }; MOST_PIXELS];
     let mut counts = [SumWord { value: 0 }; MOST_BINS];
     let bins = count_pixels(plan.size(), record.direction, &ones, &mut counts);

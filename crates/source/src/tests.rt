@@ -10,7 +10,7 @@ use mojette::{Fault, Record, Refusal};
 use samples::SumWord;
 use std::test::Fail;
 
-// The refusal's number and first value.
+// The refusal's number and first value, which the tests pin.
 fn told(fault: Fault) -> (usize, usize) {
     let refusal = Refusal::from(fault);
     (refusal.number, refusal.first)

@@ -1,6 +1,6 @@
 // What a source answers with. A file of its own, so that `specs/` can name the type.
 
-// Columns, rows and places.
+// Columns, rows and places: any three numbers, lawful or not.
 #[derive(Clone, Copy)]
 pub struct Sizes {
     pub columns: usize,

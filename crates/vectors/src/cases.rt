@@ -97,7 +97,7 @@ fn bin_case<K: Coded>(alloc: Global, words: &mut Words, out: &mut String) -> Res
     Ok(())
 }
 
-// A case of a set at a kind of sample. The set `strip` has a question first: 0 for a strip, 1 for the sizes, 2 for a place, 3 for a bin.
+// A case of a set at a kind of sample, by the words that the reference writes. The set `strip` has a question first: 0 for a strip, 1 for the sizes, 2 for a place, 3 for a bin.
 fn case_of<K: Coded>(
     alloc: Global,
     set: &str,
