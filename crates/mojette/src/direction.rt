@@ -1,7 +1,8 @@
 // Directions of projection. A file of its own, so that `specs/` can name the types.
 ghost use Rattle.std.specs.Prelude.{◌≡◌};
 
-// The direction (p, q): its lines step p columns to the right and q rows down.
+// The direction (p, q): its lines step p columns to the right and q rows down. Callers hand in any two numbers; what is lawful is asked by
+// clauses where it is needed.
 #[derive(Clone, Copy, Debug, PartialEq, Eq)]
 pub struct Direction {
     pub p: i32,
