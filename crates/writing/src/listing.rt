@@ -48,7 +48,7 @@ pub fn write_picture<K: Coded>(out: &mut [u8], size: Size, picture: &[K]) -> Res
     write_tile(out, b"picture", size, &[], picture)
 }
 
-// The listing of a ghost, with its lost places.
+// The listing of a ghost, with its lost places. The number of records is asked by a clause, as records are the callers' slice.
 pub fn write_ghost<K: Coded>(
     out: &mut [u8],
     size: Size,

@@ -58,7 +58,7 @@ impl<'a> Writer<'a> {
     }
 }
 
-// How long the lines of the lost places are.
+// How long the lines of the lost places are. Each text is written once and measured once, since a too short output is refused before anything is written.
 pub(crate) fn lost_len(records: &[Record]) -> usize
     requires { length records.now ≤ most_places }
     ensures value { result ≡ length (lost_text 0 records.now []) }

@@ -4,11 +4,10 @@ ghost use Rattle.samples.specs.Reading.{code};
 ghost use Rattle.writing.specs.Lines.{spaced, line_text};
 ghost use Rattle.writing.specs.Writers.{has_room, Writes};
 
-use itoa::Buffer;
 use samples::Coded;
 use samples::codes::write_code;
 
-// A table, and how many of its cells hold text.
+// A table, and how many of its cells hold text. The table is the caller's slice and needs no heap, hence a length beside it.
 #[derive(Drop)]
 pub(crate) struct Writer<'a> {
     table: &'a mut [u8],
@@ -52,6 +51,19 @@ impl<'a> Writer<'a> {
         }
     }
 
+    // A number.
+    fn put_decimal(&mut self, number: usize)
+        requires { has_room self.old (decimal number) }
+        ensures { Writes (decimal number) self.old self.new }
+    {
+        if number < 10 {
+            self.put(&[b'0' + number as u8]);
+        } else {
+            self.put_decimal(number / 10);
+            self.put(&[b'0' + (number % 10) as u8]);
+        }
+    }
+
     // Numbers, each after a space. It is no trait's method with `put_codes`: an impl for every coded kind would overlap one for `usize`.
     pub(crate) fn put_numbers(&mut self, numbers: &[usize])
         requires { has_room self.old (spaced decimal numbers.now) }
@@ -59,7 +71,7 @@ impl<'a> Writer<'a> {
     {
         for number in numbers {
             self.put(b" ");
-            self.put(Buffer::new().format(*number).as_bytes());
+            self.put_decimal(*number);
         }
     }
 
@@ -80,7 +92,11 @@ fn decimal_len(number: usize) -> usize
     ensures value { result ≡ length (decimal number) }
     ensures short { result ≤ 20 }
 {
-    Buffer::new().format(number).len()
+    if number < 10 {
+        1
+    } else {
+        decimal_len(number / 10) + 1
+    }
 }
 
 // How long numbers are, each after a space.

@@ -1,0 +1,4 @@
+use Rattle.writing.proofs.writer.+decimal_len.Given as goal
+
+abbrev pub decreases-decimal_len : goal.decreases-decimal_len
+decreases-decimal_len l = l.number
