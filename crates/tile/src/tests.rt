@@ -36,6 +36,7 @@ fn peel(
 ) -> Result<Peeling, Fail> {
     for granted in grants.iter_mut() {
         match tile.take(plan, tables.queue) {
+            // A refused take is the good end.
             Err(refused) => return Ok(refused.back),
             Ok((next, grant)) => {
                 *granted = grant.position;
