@@ -35,6 +35,7 @@ pub(crate) fn peel_all<K: Kind>(
         let queue = &mut *tables.queue;
         let (taken, grant) = match tile.take(plan, queue) {
             Ok(both) => both,
+            // A refused take is the good end.
             Err(refused) => return Ok(refused.back),
         };
         (tile, _) = taken.settle(

@@ -1,6 +1,5 @@
 -- One turn of the loop that takes v off the bins of a pixel, place after place.
-use Rattle.std.proofs.Common.{◌≡◌, ℕ, ◌+◌, ◌-◌, ◌<◌, true, ◌&&◌, List, length, sym, ap, ◌∙◌, subst, subst₂, arith}
-use Rattle.std.proofs.lemmas.Bool.{ne_eqb}
+use Rattle.std.proofs.Common.{◌≡◌, ℕ, ◌+◌, ◌-◌, ◌<◌, ◌==◌, true, false, ◌&&◌, List, length, sym, ap, ◌∙◌, subst, subst₂, arith}
 use Rattle.samples.specs.declared.kind.Kind.{Ghosts as Operations}
 use Rattle.mojette.specs.Bins.{in_bin}
 use Rattle.mojette.specs.Meaning.{bins_of}
@@ -40,14 +39,14 @@ module _ {S : Type 0} (K : Operations S) (plan : Plan) (c : ℕ) (v : S) (w : Wo
       (λ b low high ne. lies.only b low (omega (arith, next)) (λ s. ne (s ∙ sym here))))
 
   -- a lost place: nothing
-  off_lost : ((place_at (places_of plan) i).cause ≡ 0 → ⊥) → off (starts plan i) ≡ off (starts plan (i + 1))
+  off_lost : ((place_at (places_of plan) i).cause == 0) ≡ false → off (starts plan i) ≡ off (starts plan (i + 1))
   unfolding size
-  off_lost ne =
+  off_lost lost =
       sym (ap off next ∙ none_off K (incidence (shape plan)) c v w (starts plan i) size
       (λ b low high.
       let here : (place_at (places_of plan) i).start + (b - starts plan i) ≡ b = omega (arith, start_is plan i l) in
       ap ((incidence (shape plan)).lies c) (sym here) ∙ lies_is plan i l (b - starts plan i) (omega arith) c
-      ∙ ap (λ t. t && in_bin plan.size.columns plan.size.rows (direction_of (place_at (places_of plan) i)) c (b - starts plan i)) (ne_eqb _ 0 ne)))
+      ∙ ap (λ t. t && in_bin plan.size.columns plan.size.rows (direction_of (place_at (places_of plan) i)) c (b - starts plan i)) lost))
 
   -- from the world u before the turn to the world after it
   module _ (u after : World S) (so_far : u ≡ off (starts plan i)) where
@@ -55,8 +54,8 @@ module _ {S : Type 0} (K : Operations S) (plan : Plan) (c : ℕ) (v : S) (w : Wo
         (u' : World S) → u' ≡ take_off K (bins_of (shape plan)) v at u → after ≡ u' → after ≡ off (starts plan (i + 1))
     whole_turn at lies e u' taken same = same ∙ taken ∙ ap (take_off K (bins_of (shape plan)) v at) so_far ∙ off_whole at lies e
 
-    pub lost_turn : ((place_at (places_of plan) i).cause ≡ 0 → ⊥) → after ≡ u → after ≡ off (starts plan (i + 1))
-    lost_turn ne same = same ∙ so_far ∙ off_lost ne
+    pub lost_turn : ((place_at (places_of plan) i).cause == 0) ≡ false → after ≡ u → after ≡ off (starts plan (i + 1))
+    lost_turn lost same = same ∙ so_far ∙ off_lost lost
 
 -- where the code finds the bin of a pixel at a turn
 pub lies_here : (plan : Plan) (ys : List Place) (i : ℕ) (x : Pixel) (at P Q : ℕ) → Turn plan ys i → P ≡ plan.size.columns → Q ≡ plan.size.rows →

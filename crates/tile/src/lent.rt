@@ -2,6 +2,7 @@
 
 // The five tables, lent for one call. Where one is only read, it first gets a name of its own, as `let queue = &mut *tables.queue;`:
 // of a field that is passed as a `&`, no cell is known afterwards.
+// That they are long enough for a plan is asked by clauses, since the caller gives both at each call.
 #[derive(Drop)]
 pub struct Tables<'a, K> {
     pub picture: &'a mut [K],

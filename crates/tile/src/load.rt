@@ -22,6 +22,7 @@ fn bin_or_zero<S: Source>(source: &S, i: usize, b: usize) -> S::Sample
 }
 
 // Writes the bins of a place at their positions.
+// It takes the positions, and not their cells alone, since its contract also says what stands before and behind them.
 fn write_place<S: Source>(source: &S, i: usize, from: usize, bins: usize, sums: &mut [S::Sample])
     requires place { (i < length (S.meaning source.now).places) × (bins ≡ bins_at (S.meaning source.now) i) }
     requires room { from + bins ≤ length sums.old }
@@ -32,7 +33,7 @@ fn write_place<S: Source>(source: &S, i: usize, from: usize, bins: usize, sums: 
     }
 }
 
-// The record of a place. (No `From`: a place whose numbers are no direction's has none.)
+// The record of a place. (No `From`: a clause rules out places without one. `TryFrom` would hand callers an error that cannot happen.)
 fn record_of(place: Place) -> Record
     requires { (place.slope ≤ 7) × (place.q ≤ 7) }
     ensures { result ≡ record_of place }

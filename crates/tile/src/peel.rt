@@ -51,7 +51,7 @@ pub(crate) fn take_off_all<K: Kind>(
     let rows = plan.rows();
     // With their index, one of the forms that docs/DECISIONS.md names.
     for (_i, place) in places.iter().enumerate() {
-        if place.cause == 0 {
+        if place.is_whole() {
             let at = bin_at(columns, rows, place, pixel);
             take_off(plan, v, at, state, tables);
         }

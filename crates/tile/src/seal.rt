@@ -22,6 +22,7 @@ use samples::Kind;
 use walk::count_pixels;
 
 // One value in the first n cells. (`fill` would ask for a clone that cannot fail, which no kind promises.)
+// It takes n, and not the n cells alone, since its contract also says what stands behind them.
 fn fill<T: Copy>(n: usize, value: T, cells: &mut [T])
     requires { n ≤ length cells.old }
     ensures { cells.new ≡ filled n (λ _. value) cells.old }
@@ -107,6 +108,7 @@ impl Loading {
             counts,
             queue,
         };
+        // By hand: the closure of a `map_err` would move the state, which the steps below need.
         if let Err(fault) = tables.check(plan) {
             return Err(Refused { back: self, fault });
         }
@@ -118,9 +120,7 @@ impl Loading {
                 fault: Fault::NotLoaded(missing),
             });
         }
-        if let Err(fault) = judge(plan, tables.picture) {
-            return Err(Refused { back: self, fault });
-        }
+        judge(plan, tables.picture).map_err(|fault| Refused { back: self, fault })?;
         Ok(Peeling {
             state: begin(plan, &mut tables),
         })

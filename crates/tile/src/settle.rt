@@ -69,6 +69,7 @@ impl Peeling {
             queue,
         };
         let at = grant.position as usize;
+        // By hand: the closure of a `map_err` would move the state and the grant, which the steps below need.
         if let Err(fault) = tables.check_at(plan, at) {
             return Err(Refused {
                 back: (self, grant),

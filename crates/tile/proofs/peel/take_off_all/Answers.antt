@@ -1,4 +1,5 @@
-use Rattle.std.proofs.Common.{length, sym, refl, ap, ◌∙◌, subst, arith}
+use Rattle.std.proofs.Common.{length, sym, refl, ap, ◌∙◌, subst, arith, ◌==◌}
+use Rattle.std.proofs.lemmas.Bool.{eqb-true}
 use Rattle.peeling.specs.Steps.{take_off_all}
 use Rattle.plan.specs.Shapes.{shape}
 use Rattle.law.specs.Positions.{incidence}
@@ -8,7 +9,7 @@ use Rattle.tile.specs.Worlds.{StillLent, held}
 use Rattle.tile.proofs.Keeping.{same_tables, lent_on}
 use Rattle.tile.proofs.Turns.{lies_here, whole_turn, lost_turn}
 use Rattle.tile.proofs.peel.take_off_all.Goals as goal
-use Rattle.tile.proofs.peel.take_off_all.Goals.{then-place-eq0, else-place-eq0}
+use Rattle.tile.proofs.peel.take_off_all.Goals.{then-is_whole, else-is_whole}
 
 pub loop-i-init : goal.loop-i-init
 unfolding take_off_all
@@ -32,20 +33,20 @@ loop-i-preserved g c =
     let t = turn plan c.places-places.result.now i c.places-places.ensures c.loop-i-test.true in
     let first = world_of c.args.state.now (held c.args.tables.now) in
     let before = world_of c.loop-i.state (held c.loop-i.tables) in
-    let after = world_of c.if-place-eq0.state (held c.if-place-eq0.tables) in
-    elim c.if-place-eq0.branch [
-      | then-place-eq0 w ↦
+    let after = world_of c.if-is_whole.state (held c.if-is_whole.tables) in
+    elim c.if-is_whole.branch [
+      | then-is_whole w ↦
           let lies = lies_here plan c.places-places.result.now i c.args.pixel w.bin_at-at.result c.columns-columns.result c.rows-rows.result t
           c.columns-columns.ensures c.rows-rows.ensures c.requires.pixel w.bin_at-at.ensures.lies in
           let last = w.take_off.new in record {
             lent = lent_on c.loop-i.invariant.lent (subst (λ x. StillLent c.loop-i.tables x) (sym w.tables-is) w.take_off.ensures.lent);
             world = whole_turn K plan cell v first i t.known before after c.loop-i.invariant.world w.bin_at-at.result lies
-                (sym (ap (λ x. x.cause) t.same) ∙ w.if-place-eq0.true) (world_of last.state (held last.tables)) w.take_off.ensures.world
+                (sym (ap (λ x. x.cause) t.same) ∙ eqb-true _ 0 (sym c.is_whole.ensures ∙ w.if-is_whole.true)) (world_of last.state (held last.tables)) w.take_off.ensures.world
                 (λ j. world_of (w.state-is j) (held (w.tables-is j)));
           }
-      | else-place-eq0 w ↦ record {
+      | else-is_whole w ↦ record {
         lent = subst (λ x. StillLent c.args.tables.now x) (sym w.tables-is) c.loop-i.invariant.lent;
-        world = lost_turn K plan cell v first i t.known before after c.loop-i.invariant.world (λ e. w.if-place-eq0.false (ap (λ x. x.cause) t.same ∙ e))
+        world = lost_turn K plan cell v first i t.known before after c.loop-i.invariant.world (sym (ap (λ x. x.cause == 0) t.same) ∙ sym c.is_whole.ensures ∙ w.if-is_whole.false)
             (λ j. world_of (w.state-is j) (held (w.tables-is j)));
       }
     ]
