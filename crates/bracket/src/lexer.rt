@@ -18,7 +18,7 @@ pub(crate) enum Token<'a> {
     Word(&'a [u8]),
 }
 
-// A text that is read up to a byte. The whole text stays beside it, since a fault tells the byte, and its line.
+// A text that is read up to a byte. The whole text stays beside it, since a fault tells the byte.
 #[derive(Drop)]
 pub(crate) struct Lexer<'a> {
     pub(crate) text: &'a [u8],

@@ -82,6 +82,7 @@ impl<'a> Lexer<'a> {
     {
         let mut lines = Lines::new();
         let mut last = None;
+        // Until a line ends the file: how many lines come is not known before.
         while let Start::Dir = self.start(last, lines.len() < MOST_PLACES)? {
             let line = self.place::<K>(size, last)?;
             last = Some(line.direction);

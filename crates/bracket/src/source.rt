@@ -54,7 +54,7 @@ impl<'a, K: Coded> BracketFile<'a, K> {
         }
     }
 
-    // Columns, rows and places.
+    // Columns, rows and places, three numbers as the question's definition has them.
     pub fn sizes(&self) -> (usize, usize, usize)
         ensures { result ≡ asked_sizes (file_meaning K.Kind K.Coded.own self.now) }
     {

@@ -12,7 +12,8 @@ ghost use Rattle.samples.specs.contracts.impls.XorWordKind.TheImpl.{ghosts as xo
 
 use samples::{Coded, Pair, SumWord, XorWord};
 
-// Each lawful meaning has one text, which is read as that meaning, and all other text is refused: for every kind whose name is a word.
+// Each lawful meaning has one text, which is read as that meaning, and all other text is refused: for every kind whose name is a word. That is a
+// clause: as a law of `Coded` it would be asked of kinds too whose name no file has.
 pub fn one_text<K: Coded>()
     requires { IsWord K.Coded.name }
     ensures { OneText K.Kind K.Coded.own }

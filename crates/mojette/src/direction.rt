@@ -10,7 +10,7 @@ pub struct Direction {
 }
 
 // A place of a plan: a direction, and why its projection is lost; cause 0 for a whole one. Records are cells of lent tables, whose
-// cause is a byte by the rules.
+// cause is a byte by the rules, and is compared as one where it is asked for.
 #[derive(Clone, Copy, Debug, PartialEq, Eq)]
 pub struct Record {
     pub direction: Direction,

@@ -81,7 +81,7 @@ mod tests {
         Record::new(p, q, 0)
     }
 
-    // The refusal's number and first value, which the tests pin; 0 and T where there is a plan.
+    // The refusal's number and first value, which the tests pin; 0 and T where there is a plan. Each file of tests asks its own call.
     fn answer(columns: usize, rows: usize, records: &[Record]) -> (usize, usize) {
         match Plan::of(columns, rows, records) {
             Ok(plan) => (0, plan.total()),

@@ -78,7 +78,8 @@ mod tests {
     use mojette::Refusal;
     use samples::SumWord;
 
-    // The refusal's number and first value, which the tests pin; 0 and the bins where the call is served.
+    // The refusal's number and first value, which the tests pin; 0 and the bins where the call is served. Each file of tests asks its own
+    // call.
     fn answer(
         columns: usize,
         rows: usize,

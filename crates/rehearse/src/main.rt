@@ -84,6 +84,7 @@ fn record_all(rt: &HostRuntime, cells: &[SumWord]) -> anyhow::Result<Vec<SumWord
 fn rebuild_from(rt: &HostRuntime, records: &[Record], run: &[SumWord]) -> anyhow::Result<()> {
     let rack = match Rack::new(COLUMNS, ROWS, records, run) {
         Ok(rack) => rack,
+        // It is printed, and the rehearsal goes on.
         Err(fault) => return show_refusal(rt, fault),
     };
     let mut plan = Plan::fresh();

@@ -47,7 +47,7 @@ fn run<S: Source>(
     Ok(tile.finish(plan, sums)?)
 }
 
-// Opens, loads, seals, takes and settles until nothing waits, and finishes.
+// Opens, loads, seals, takes and settles until nothing waits, and finishes. The tables are the callers' and stay slices.
 pub fn rebuild<S: Source>(
     source: &S,
     plan: &mut Plan,

@@ -13,6 +13,7 @@ pub fn plan_of<S: Source>(source: &S) -> Result<Plan, Fault>
     let sizes = source.sizes();
     let size = Size::of(sizes.columns, sizes.rows)?;
     let count = sizes.places;
+    // As `Plan::of` tests it, here before the places are asked for.
     if count < 1 || count > MOST_PLACES {
         return Err(Fault::PlaceCount);
     }

@@ -19,7 +19,8 @@ const MOST_PIXELS: usize = MOST_SIDE * MOST_SIDE;
 
 const MOST_BINS: usize = 2 * (MOST_SIDE - 1) * (MOST_STEP as usize) + 1;
 
-// The number of pixels of each bin, which is the projection of a tile of ones. Answers how many bins there are.
+// The number of pixels of each bin, which is the projection of a tile of ones; walk counts all bins of a plan, as bytes. Answers how many
+// bins there are.
 fn count_pixels(size: Size, direction: Direction, ones: &[SumWord], counts: &mut [SumWord]) -> usize
     requires direction { lawful direction ≡ true }
     requires ones { (c : ℕ) → c < length ones.now → (slice_index_or ones.now c sum_zero).value ≡ 1 }
@@ -77,6 +78,7 @@ pub fn strip<S: Source<Sample = SumWord>>(
 {
     let plan = plan_of(source)?;
     let record = source.place(place)?;
+    // The test that the rack makes too: a function of it would be no plainer.
     if record.cause != 0 {
         return Err(Fault::Lost(record.cause));
     }

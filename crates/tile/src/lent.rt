@@ -2,7 +2,8 @@
 
 // The five tables, lent for one call. Where one is only read, it first gets a name of its own, as `let queue = &mut *tables.queue;`:
 // of a field that is passed as a `&`, no cell is known afterwards.
-// That they are long enough for a plan is asked by clauses, since the caller gives both at each call.
+// That they are long enough for a plan is asked by clauses, since the caller gives both at each call. What is lent them ensures that they are still
+// the caller's (`StillLent`), as the language asks of each struct that holds a `&mut`.
 #[derive(Drop)]
 pub struct Tables<'a, K> {
     pub picture: &'a mut [K],

@@ -22,7 +22,8 @@ use samples::Kind;
 use walk::count_pixels;
 
 // One value in the first n cells. (`fill` would ask for a clone that cannot fail, which no kind promises.)
-// It takes n, and not the n cells alone, since its contract also says what stands behind them.
+// It takes n, and not the n cells alone, since its contract also says what stands behind them, in the words of the steps; plan's `clear` says the
+// like in the words of its sums.
 fn fill<T: Copy>(n: usize, value: T, cells: &mut [T])
     requires { n ≤ length cells.old }
     ensures { cells.new ≡ filled n (λ _. value) cells.old }
@@ -30,7 +31,7 @@ fn fill<T: Copy>(n: usize, value: T, cells: &mut [T])
     cells[..n].fill_with(|| value);
 }
 
-// Queues every position whose bin has one pixel, rising.
+// Queues every position whose bin has one pixel, rising. Its parts are lent one by one, as for `append`.
 #[tactic(auto, using(std::proofs::lemmas::Bool::Decides::nat_tests), unfolding(crate::specs::Seals::singles_queued))]
 fn queue_singles(state: &mut State, bins: usize, counts: &[u8], queue: &mut [u16])
     requires { (1 ≤ bins) × ((bins < 65536) × ((bins ≤ length counts.now) × (bins ≤ length queue.old))) }
@@ -49,6 +50,7 @@ fn count_and_queue(plan: &Plan, counts: &mut [u8], queue: &mut [u16]) -> State
     ensures counts { counts.new ≡ counts_after (shape plan.now) counts.old }
     ensures ring { (result, queue.new) ≡ singles_queued (bins_of (shape plan.now)) (bins_of (shape plan.now)) counts.new (unpeeled (shape plan.now), queue.old) }
 {
+    // It is served: the table is long enough.
     let _ = count_pixels(plan, counts);
     let mut state = State {
         head: 0,
@@ -88,7 +90,7 @@ fn judge<K: Kind>(plan: &Plan, picture: &mut [K]) -> Result<(), Fault>
 }
 
 impl Loading {
-    // Begins the peeling where Katz's criterion holds; else the picture shows a ghost.
+    // Begins the peeling where Katz's criterion holds; else the picture shows a ghost. The tables are the callers' and stay slices.
     #[tactic(auto, using(std::proofs::lemmas::Bool::Decides::nat_tests, crate::proofs::Checks::all_long), unfolding(law::specs::Steps::seal, law::specs::Steps::ghosted))]
     pub fn seal<K: Kind>(
         self,

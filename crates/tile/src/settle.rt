@@ -46,7 +46,8 @@ fn peel_bin<K: Kind>(
 }
 
 impl Peeling {
-    // Spends a grant. The answer is the cell of the pixel that is found, or none, and how many pixels are missing.
+    // Spends a grant. The answer is the cell of the pixel that is found, or none, and how many pixels are missing. The tables are the
+    // callers' and stay slices.
     #[tactic(auto, using(std::proofs::lemmas::Bool::Decides::nat_tests, crate::proofs::Checks::all_long_at), unfolding(law::specs::Steps::settle, peeling::specs::Steps::spent))]
     pub fn settle<K: Kind>(
         self,

@@ -1,4 +1,4 @@
-// A pixel of a tile. A file of its own, so that `specs/` can name the type.
+// A pixel of a tile. A file of its own, so that `specs/` can name the type. Its fields are any numbers, since callers may hand in any pixel.
 
 #[derive(Clone, Copy)]
 pub struct Pixel {

@@ -48,7 +48,8 @@ pub fn write_picture<K: Coded>(out: &mut [u8], size: Size, picture: &[K]) -> Res
     write_tile(out, b"picture", size, &[], picture)
 }
 
-// The listing of a ghost, with its lost places. The number of records is asked by a clause, as records are the callers' slice.
+// The listing of a ghost, with its lost places. The number of records is asked by a clause; it ought to be
+// refused (docs/DECISIONS.md).
 pub fn write_ghost<K: Coded>(
     out: &mut [u8],
     size: Size,
@@ -62,7 +63,7 @@ pub fn write_ghost<K: Coded>(
     write_tile(out, b"ghost", size, records, picture)
 }
 
-// The listing of a refusal.
+// The listing of a refusal. Into a lent table and with the needed length first, which `Display` does not give.
 pub fn write_refusal(out: &mut [u8], refusal: Refusal) -> Result<usize, Fault>
     ensures { (outcome result, out.new) ≡ filling (refusal_text refusal) out.old }
 {
