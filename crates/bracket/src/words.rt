@@ -82,7 +82,7 @@ pub(crate) fn holding_of(word: &[u8]) -> Result<Holding, Reason>
     }
 }
 
-// How a line begins. An `end` at the first place, and a `dir` without room, are wrong.
+// How a line begins. An `end` at the first place, and a `dir` without room, are wrong: two facts, each true or false by itself.
 pub(crate) fn start_of(word: &[u8], first: bool, room: bool) -> Result<Start, Reason>
     ensures { worth_as is_dir result ≡ line_word first room word.now }
 {

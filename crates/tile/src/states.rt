@@ -28,7 +28,7 @@ pub struct Grant {
     pub(crate) position: u16,
 }
 
-// Why a call was refused, with what it took.
+// Why a call was refused, with what it took. A call builds it in place, since what goes back is the value that `?` or `map_err` would have moved.
 #[derive(Drop)]
 pub struct Refused<B> {
     pub back: B,

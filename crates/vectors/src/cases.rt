@@ -36,7 +36,7 @@ fn ghost_case<K: Coded>(alloc: Global, words: &mut Words, out: &mut String) -> R
     show_numbers(out, picture.iter().map(|x| x.to_number()))
 }
 
-// What a rack is made from.
+// What a rack is made from, by any two numbers.
 #[derive(Drop)]
 struct Contents<K> {
     columns: usize,
