@@ -1,5 +1,6 @@
 -- What the lines of a file stand for, in its text.
 use Rattle.std.specs.Prelude.{ℕ, Bool, true, false, List, [], take, codes as text, Option}
+use Rattle.std.specs.NonZero.{non_zero_u8_get}
 use Rattle.samples.specs.declared.coded.Coded.{Ghosts as Codes}
 use Rattle.samples.specs.declared.kind.Kind.{Ghosts as Operations}
 use Rattle.mojette.specs.declared.direction.Direction.{Direction}
@@ -37,7 +38,7 @@ start_reader n last room = do
 
 abbrev pub cause_of : Held → ℕ
 cause_of (held.Bins o) = 0
-cause_of (held.Lost c) = c.value
+cause_of (held.Lost c) = non_zero_u8_get c
 
 abbrev pub record_of : Line → Record
 record_of x = record { direction = x.direction; cause = cause_of x.held }
@@ -50,7 +51,7 @@ module _ {S : Type 0} (K : Operations S) (C : Codes S) (t : List ℕ) where
   -- the cause, and the sums of b bins
   abbrev pub held_from : ℕ → Held → ℕ × List S
   held_from b (held.Bins o) = (0, found_from K C t o b)
-  held_from b (held.Lost c) = (c.value, [])
+  held_from b (held.Lost c) = (non_zero_u8_get c, [])
 
   abbrev pub place_from : Size → Line → Place S
   place_from s x = record {

@@ -20,7 +20,7 @@ fn line_of(text: &[u8], byte: usize) -> usize
 }
 
 impl<'a> Lexer<'a> {
-    // A whole file.
+    // A whole file. What is asked of the kind's name stands in a clause; `Layout::of` says why.
     fn file<K: Coded>(&mut self) -> Result<(Size, Lines), TextFault>
         requires { IsWord K.Coded.name }
         ensures { ReadsAs (λ v. meaning_from K.Kind K.Coded.own self.old.text.now v.0 (held_lines v.1)) (λ n. file_reader K.Coded.own n) self.old result self.new }
@@ -31,7 +31,7 @@ impl<'a> Lexer<'a> {
     }
 }
 
-// Reads a whole file, and finds the line of a wrong token.
+// Reads a whole file, and finds the line of a wrong token. The kind's name has its clause here too.
 pub(crate) fn lines_of<K: Coded>(text: &[u8]) -> Result<(Size, Lines), FileFault>
     requires { IsWord K.Coded.name }
     ensures { file_read (λ v. meaning_from K.Kind K.Coded.own text.now v.0 (held_lines v.1)) result ≡ read_file K.Coded.own text.now }

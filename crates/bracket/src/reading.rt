@@ -92,7 +92,7 @@ impl<'a> Lexer<'a> {
         Ok(lines)
     }
 
-    // The first line of a file.
+    // The first line of a file. What is asked of the kind's name stands in a clause; `Layout::of` says why.
     pub(crate) fn head<K: Coded>(&mut self) -> Result<Size, TextFault>
         requires { IsWord K.Coded.name }
         ensures { ReadsAs (λ size. (size.columns, size.rows)) (head_reader K.Coded.name) self.old result self.new }

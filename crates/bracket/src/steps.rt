@@ -1,5 +1,6 @@
 // Reading a file word by word.
 ghost use Rattle.std.specs.Prelude.{◌≡◌, true, IfOk};
+ghost use Rattle.std.specs.NonZero.{non_zero_u8_get};
 ghost use Rattle.mojette.specs.Meaning.{side_ok};
 ghost use Rattle.format.specs.Format.{size_word, cause_word, p_word, q_word, code_word, bins_word, line_word, direction_reader};
 ghost use Rattle.format.specs.Readers.{accept, expect};
@@ -33,7 +34,7 @@ impl<'a> Lexer<'a> {
 
     // Why a place is lost.
     pub(crate) fn cause(&mut self) -> Result<NonZeroU8, TextFault>
-        ensures { ReadsAs (λ cause. cause.value) (λ n. accept n cause_word) self.old result self.new }
+        ensures { ReadsAs non_zero_u8_get (λ n. accept n cause_word) self.old result self.new }
     {
         self.accept(cause_of)
     }

@@ -1,5 +1,6 @@
 // What the words of a file are worth: a value, or the reason why one is wrong.
 ghost use Rattle.std.specs.Prelude.{◌≡◌};
+ghost use Rattle.std.specs.NonZero.{non_zero_u8_get};
 ghost use Rattle.format.specs.Format.{size_word, cause_word, p_word, q_word, code_word, bins_word, line_word};
 ghost use Rattle.format.specs.Readers.{exactly as exactly_one};
 ghost use Rattle.bracket.specs.Lexing.{worth_of, worth_as};
@@ -36,7 +37,7 @@ pub(crate) fn side_of(word: &[u8]) -> Result<usize, Reason>
 
 // Why a place is lost.
 pub(crate) fn cause_of(word: &[u8]) -> Result<NonZeroU8, Reason>
-    ensures { worth_as (λ cause. cause.value) result ≡ cause_word word.now }
+    ensures { worth_as non_zero_u8_get result ≡ cause_word word.now }
 {
     numeral(word)
         .and_then(|n| u8::try_from(n).ok())

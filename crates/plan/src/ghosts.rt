@@ -30,6 +30,15 @@ fn write_spark<K: Kind>(size: Size, at: usize, picture: &mut [K])
     cells[at] = K::spark_sample();
 }
 
+// The columns whose pixels take from a pixel inside the tile, from the first to before the last, and how many cells before them
+// that pixel stands.
+#[derive(Clone, Copy)]
+struct Span {
+    first: usize,
+    last: usize,
+    back: usize,
+}
+
 impl Place {
     // How far the direction goes left.
     fn left(self) -> usize
@@ -38,20 +47,27 @@ impl Place {
         if self.leftward { self.slope } else { 0 }
     }
 
-    // The columns whose pixels take from a pixel inside the tile, from the first to before the last, and how many cells
-    // before them that pixel stands.
-    fn span(self, size: Size) -> (usize, usize, usize)
+    // What a step of the ghost changes in each row.
+    fn span(self, size: Size) -> Span
         requires narrow { self.slope < size.columns }
         requires direction { lawful (direction_of self) ≡ true }
-        ensures first { result.0 ≡ (if self.leftward then 0 else self.slope) }
-        ensures last { result.1 ≡ (if self.leftward then size.columns - self.slope else size.columns) }
-        ensures back { result.2 ≡ (if self.leftward then self.q * size.columns - self.slope else self.q * size.columns + self.slope) }
+        ensures first { result.first ≡ (if self.leftward then 0 else self.slope) }
+        ensures last { result.last ≡ (if self.leftward then size.columns - self.slope else size.columns) }
+        ensures back { result.back ≡ (if self.leftward then self.q * size.columns - self.slope else self.q * size.columns + self.slope) }
     {
         let down = self.q * size.columns;
         if self.leftward {
-            (0, size.columns - self.slope, down - self.slope)
+            Span {
+                first: 0,
+                last: size.columns - self.slope,
+                back: down - self.slope,
+            }
         } else {
-            (self.slope, size.columns, down + self.slope)
+            Span {
+                first: self.slope,
+                last: size.columns,
+                back: down + self.slope,
+            }
         }
     }
 }
@@ -66,7 +82,7 @@ fn take_off<K: Kind>(size: Size, place: Place, picture: &mut [K])
     ensures others { drop (size.columns * size.rows) picture.new ≡ drop (size.columns * size.rows) picture.old }
 {
     let q = place.q;
-    let (first, last, back) = place.span(size);
+    let Span { first, last, back } = place.span(size);
     for l in (q..size.rows).rev() {
         for k in (first..last).rev() {
             let cell = cell_of(size, k, l);

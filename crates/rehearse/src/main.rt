@@ -69,6 +69,7 @@ fn record_all(rt: &HostRuntime, cells: &[SumWord]) -> anyhow::Result<Vec<SumWord
         match project(COLUMNS, ROWS, direction, cells, &mut sums) {
             Ok(bins) => {
                 let sums = &sums[..bins.min(BINS)];
+                // In the words of mathematics; no other place prints a direction so.
                 let Direction { p, q } = direction;
                 let name = format!(in rt.alloc(); "({p}, {q}):")?;
                 show(rt, &name, sums)?;

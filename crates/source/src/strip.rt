@@ -45,21 +45,20 @@ fn mean(sum: SumWord, pixels: SumWord) -> u16
     }
 }
 
-// Writes the means of a whole place. The counts stand in an array of their own, which is not lent.
+// Writes the means of the bins of a whole place, of which there are as many as counts. That the place is one of the source stands
+// here and in two clauses of the tile: a type of such places would have to name the source that it speaks of.
 fn write_means<S: Source<Sample = SumWord>>(
     source: &S,
     place: usize,
-    bins: usize,
     counts: &[SumWord],
     out: &mut [u16],
 )
     requires place { (place < length (S.meaning source.now).places) × (whole (place_at (S.meaning source.now) place).entry ≡ true) }
-    requires bins { bins ≡ bins_at (S.meaning source.now) place }
-    requires counts { (b : ℕ) → b < bins → (slice_index_or counts.now b sum_zero).value ≡ pixels_in (S.meaning source.now).P (S.meaning source.now).Q (place_at (S.meaning source.now) place).entry.direction b }
-    requires room { (bins ≤ length counts.now) × (bins ≤ length out.old) }
-    ensures { out.new ≡ map (mean_at (S.meaning source.now) place) (range_with_len 0 bins) ++ drop bins out.old }
+    requires bins { (length counts.now ≡ bins_at (S.meaning source.now) place) × (length out.old ≡ length counts.now) }
+    requires counts { (b : ℕ) → b < length counts.now → (slice_index_or counts.now b sum_zero).value ≡ pixels_in (S.meaning source.now).P (S.meaning source.now).Q (place_at (S.meaning source.now) place).entry.direction b }
+    ensures { out.new ≡ map (mean_at (S.meaning source.now) place) (range_with_len 0 (length counts.now)) }
 {
-    for (b, cell) in out[..bins].iter_mut().enumerate() {
+    for (b, cell) in out.iter_mut().enumerate() {
         let Ok(sum) = source.bin(place, b) else {
             unreachable()
         };
@@ -89,6 +88,6 @@ pub fn strip<S: Source<Sample = SumWord>>(
     if out.len() < bins {
         return Err(Fault::ShortOutput(bins));
     }
-    write_means(source, place, bins, &counts, out);
+    write_means(source, place, &counts[..bins], &mut out[..bins]);
     Ok(bins)
 }

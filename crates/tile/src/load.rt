@@ -13,7 +13,7 @@ use plan::{Place, Plan};
 use samples::Kind;
 use source::Source;
 
-// Bin b of a place, zero where it is lost.
+// Bin b of a place, zero where it is lost. That the place is one of the source stands in a clause, as for the strip.
 fn bin_or_zero<S: Source>(source: &S, i: usize, b: usize) -> S::Sample
     requires { (i < length (S.meaning source.now).places) × (b < bins_at (S.meaning source.now) i) }
     ensures { result ≡ bin_value S.Sample.Kind (S.meaning source.now) i b }
@@ -22,7 +22,8 @@ fn bin_or_zero<S: Source>(source: &S, i: usize, b: usize) -> S::Sample
 }
 
 // Writes the bins of a place at their positions.
-// It takes the positions, and not their cells alone, since its contract also says what stands before and behind them.
+// It takes the positions, and not their cells alone, since its contract also says what stands before and behind them. That the place
+// is one of the source stands in a clause, as for the strip.
 fn write_place<S: Source>(source: &S, i: usize, from: usize, bins: usize, sums: &mut [S::Sample])
     requires place { (i < length (S.meaning source.now).places) × (bins ≡ bins_at (S.meaning source.now) i) }
     requires room { from + bins ≤ length sums.old }

@@ -44,7 +44,8 @@ fn queue_singles(state: &mut State, bins: usize, counts: &[u8], queue: &mut [u16
     }
 }
 
-// Each bin counted, and those with one pixel queued: a tile of which all pixels are missing.
+// Each bin counted, and those with one pixel queued: a tile of which all pixels are missing. It takes the two tables that it changes:
+// with all five its contract would say of three more that they stay.
 fn count_and_queue(plan: &Plan, counts: &mut [u8], queue: &mut [u16]) -> State
     requires { (bins_of (shape plan.now) ≤ length counts.old) × (bins_of (shape plan.now) ≤ length queue.old) }
     ensures counts { counts.new ≡ counts_after (shape plan.now) counts.old }

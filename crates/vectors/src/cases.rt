@@ -83,6 +83,7 @@ fn sizes_case<K: Coded>(alloc: Global, words: &mut Words, out: &mut String) -> R
 fn place_case<K: Coded>(alloc: Global, words: &mut Words, out: &mut String) -> Result<(), Failure> {
     let contents = Contents::<K>::of(alloc, words)?;
     let Record { direction, cause } = contents.rack()?.place(words.number())?;
+    // In the words of the outside reference; no other place prints a direction so.
     let (p, q) = (direction.p, direction.q);
     write!(out, "ok {p} {q} {cause}")?;
     Ok(())

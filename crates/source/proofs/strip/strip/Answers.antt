@@ -1,8 +1,8 @@
-use Rattle.std.proofs.Common.{ap, arith}
-use Rattle.std.proofs.lemmas.List.{get_or-replicate}
+use Rattle.std.proofs.Common.{◌≡◌, length, take, sym, ap, ◌∙◌, arith}
+use Rattle.std.proofs.lemmas.List.{get_or-replicate, length-take-le}
 use Rattle.samples.specs.declared.words.SumWord.{SumWord}
 use Rattle.samples.specs.Words.{sum_zero}
-use Rattle.source.proofs.Stripping.{known, place_known, whole_known, direction_known, pixels_few, bins_few, bins_known, counts_known}
+use Rattle.source.proofs.Stripping.{known, direction_known, pixels_few, bins_few, bins_known}
 use Rattle.source.proofs.strip.strip.Goals as goal
 
 pub count_pixels-bins-requires : goal.count_pixels-bins-requires
@@ -15,15 +15,24 @@ count_pixels-bins-requires g c =
       room = (pixels_few h, bins_few h);
     }
 
-pub write_means-requires : goal.write_means-requires
-write_means-requires g c =
+pub slice_bounds-counts-end : goal.slice_bounds-counts-end
+slice_bounds-counts-end g c =
+    let h = known (g.S.Source.meaning c.args.source.now) c.args.place c.size.result.columns c.size.result.rows c.in_ok-record.record c.in_ok-plan.plan
+    c.in_ok-plan.ensures c.size.ensures.columns c.size.ensures.rows c.in_ok-record.ensures in
+    omega (arith, bins_few h, c.count_pixels-bins.ensures.bins, c.count_pixels-bins.auto.counts)
+
+pub slice_bounds-write_means-end : goal.slice_bounds-write_means-end
+slice_bounds-write_means-end g c =
+    let h = known (g.S.Source.meaning c.args.source.now) c.args.place c.size.result.columns c.size.result.rows c.in_ok-record.record c.in_ok-plan.plan
+    c.in_ok-plan.ensures c.size.ensures.columns c.size.ensures.rows c.in_ok-record.ensures in
+    sym (length-take-le c.count_pixels-bins.result c.count_pixels-bins.new.counts (omega (arith, bins_few h, c.count_pixels-bins.ensures.bins, c.count_pixels-bins.auto.counts)))
+
+pub write_means-requires-clause-bins : goal.write_means-requires-clause-bins
+write_means-requires-clause-bins g c =
     let h = known (g.S.Source.meaning c.args.source.now) c.args.place c.size.result.columns c.size.result.rows c.in_ok-record.record c.in_ok-plan.plan
     c.in_ok-plan.ensures c.size.ensures.columns c.size.ensures.rows c.in_ok-record.ensures in
     let n = c.count_pixels-bins.ensures.bins in
-    let few = bins_few h in
-    record {
-      place = (place_known h, whole_known h c.if-record-ne0.false);
-      bins = bins_known h c.count_pixels-bins.result n;
-      counts = counts_known h c.count_pixels-bins.result n c.count_pixels-bins.new.counts c.count_pixels-bins.ensures.counts;
-      room = (omega (arith, n, c.count_pixels-bins.auto.counts), c.if-out-bins.false);
-    }
+    let bins = c.count_pixels-bins.result in
+    let counts = c.count_pixels-bins.new.counts in
+    let cut : length (take bins counts) ≡ bins = length-take-le bins counts (omega (arith, bins_few h, n, c.count_pixels-bins.auto.counts)) in
+    (cut ∙ bins_known h bins n, length-take-le bins c.args.out.now c.if-out-bins.false ∙ sym cut)
