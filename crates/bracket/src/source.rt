@@ -36,10 +36,9 @@ fn found<K: Coded>(text: &[u8], byte: usize) -> K
     requires { byte < 2 ^ 32 }
     ensures { result ≡ found_at K.Kind K.Coded.own text.now byte }
 {
-    let Some(code) = text.get(byte..byte + K::digits()) else {
-        return K::zero_sample();
-    };
-    read_code::<K>(code).unwrap_or(K::zero_sample())
+    text.get(byte..byte + K::digits())
+        .and_then(|code| read_code::<K>(code))
+        .unwrap_or(K::zero_sample())
 }
 
 impl<'a, K: Coded> BracketFile<'a, K> {

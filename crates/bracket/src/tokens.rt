@@ -75,7 +75,8 @@ impl<'a> Lexer<'a> {
         Token::Word(&rest[..size])
     }
 
-    // The mark `want`.
+    // The mark `want`. Here and in the next two functions another token is let through, each by a `let .. else` of its own, which is one of the forms
+    // that docs/DECISIONS.md names.
     pub(crate) fn mark(&mut self, want: Mark) -> Result<(), TextFault>
         ensures { Reads (λ n. expect n (mark_byte want ∷ [])) self.old result self.new }
     {

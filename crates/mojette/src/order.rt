@@ -13,7 +13,7 @@ pub const MOST_PLACES: usize = 16;
 // The most of |p|, and of q.
 pub const MOST_STEP: u32 = 7;
 
-// The bounds that the code has are those of the definitions.
+// The bounds that the code has are those of the definitions. Three numbers in a row, since nothing takes them but this promise.
 pub fn bounds() -> (usize, usize, u32)
     ensures { (result.0 ≡ most_side) × ((result.1 ≡ most_places) × (result.2 ≡ most_step)) }
 {

@@ -28,7 +28,7 @@ impl Place {
 }
 
 impl Plan {
-    // C and R.
+    // C and R, two sums of one walk, taken apart where they are judged.
     fn reach(&self) -> (usize, usize)
         ensures columns { result.0 ≡ columns_of (whole_of (shape self.now)) }
         ensures rows { result.1 ≡ rows_of (whole_of (shape self.now)) }

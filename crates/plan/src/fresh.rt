@@ -11,6 +11,7 @@ impl Plan {
     pub fn fresh() -> Plan
         ensures { shape result ≡ record { P = 1; Q = 1; records = record { direction = record { p = pos 0; q = pos 1 }; cause = 0 } ∷ [] } }
     {
+        // Number by number: `lay` would work out from a size what stands here.
         let place = Place {
             slope: 0,
             leftward: false,

@@ -47,7 +47,7 @@ impl Place {
         if self.leftward { self.slope } else { 0 }
     }
 
-    // What a step of the ghost changes in each row.
+    // What a step of the ghost changes in each row. (Size and place, as for `lay`.)
     fn span(self, size: Size) -> Span
         requires narrow { self.slope < size.columns }
         requires direction { lawful (direction_of self) ≡ true }
@@ -73,7 +73,7 @@ impl Place {
 }
 
 // One step of the ghost in place, from the last cell down: a pixel takes from an earlier cell, which still holds the old sample,
-// so that the loops count columns and rows. Pixels that take from outside the tile stay.
+// so that the loops count columns and rows. Pixels that take from outside the tile stay. (Size and place, as for `lay`.)
 fn take_off<K: Kind>(size: Size, place: Place, picture: &mut [K])
     requires room { size.columns * size.rows ≤ length picture.old }
     requires direction { lawful (direction_of place) ≡ true }
@@ -144,32 +144,26 @@ mod tests {
     use samples::SumWord;
 
     // A picture of sevens after the call.
-    fn shown(records: &[Record]) -> (u16, u16, u16, u16, u16) {
+    fn shown(records: &[Record]) -> [u16; 5] {
         let mut picture = [SumWord { value: 7 }; 5];
         if let Ok(plan) = Plan::of(2, 2, records) {
             let _ = plan.show_ghost(&mut picture);
         }
-        (
-            picture[0].value,
-            picture[1].value,
-            picture[2].value,
-            picture[3].value,
-            picture[4].value,
-        )
+        picture.map(|sample| sample.value)
     }
 
     #[test]
     fn ghosts_of_two_by_two(rt: HostRuntime) {
         let upright = [Record::new(1, 0, 0), Record::new(0, 1, 0)];
-        assert_eq!(rt; shown(&upright), (1, 0xffff, 0xffff, 1, 7));
-        assert_eq!(rt; shown(&[Record::new(-1, 1, 0)]), (0, 1, 0xffff, 0, 7));
-        assert_eq!(rt; shown(&[Record::new(0, 1, 3)]), (1, 0, 0, 0, 7));
+        assert_eq!(rt; shown(&upright), [1, 0xffff, 0xffff, 1, 7]);
+        assert_eq!(rt; shown(&[Record::new(-1, 1, 0)]), [0, 1, 0xffff, 0, 7]);
+        assert_eq!(rt; shown(&[Record::new(0, 1, 3)]), [1, 0, 0, 0, 7]);
         let enough = [
             Record::new(1, 1, 0),
             Record::new(0, 1, 4),
             Record::new(-1, 1, 0),
         ];
-        assert_eq!(rt; shown(&enough), (7, 7, 7, 7, 7));
+        assert_eq!(rt; shown(&enough), [7, 7, 7, 7, 7]);
     }
 
     #[test]

@@ -6,7 +6,7 @@ ghost use Rattle.plan.specs.Laid.{laid, direction_of, bin_number};
 use crate::places::Place;
 use mojette::{Record, Size};
 
-// The place of a record, from a position on.
+// The place of a record, from a position on. A place does not hold the size of its tile, which all places of a plan share: so functions take both.
 pub(crate) fn lay(size: Size, entry: Record, start: usize) -> Place
     ensures { result ≡ laid size.columns size.rows entry start }
 {
@@ -31,7 +31,7 @@ pub(crate) fn cell_of(size: Size, k: usize, l: usize) -> usize
 }
 
 impl Place {
-    // The bin of the pixel in column k and row l, two counters of the loops that ask.
+    // The bin of the pixel in column k and row l, two counters of the loops that ask. (Size and place, as for `lay`.)
     pub(crate) fn bin_of(self, size: Size, k: usize, l: usize) -> usize
         requires pixel { (k < size.columns) × (l < size.rows) }
         requires steps { (self.q ≤ 7) × (self.slope ≤ 7) }

@@ -34,6 +34,7 @@ fn lay_out(size: Size, records: &[Record]) -> Plan
     requires places { places_verdict 0 None records.now ≡ None }
     ensures { shape result ≡ record { P = size.columns; Q = size.rows; records = records.now } }
 {
+    // It stands where no place is; nothing reads it, and its numbers are not those of a fresh plan.
     let none = Place {
         slope: 0,
         leftward: false,

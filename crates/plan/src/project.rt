@@ -15,7 +15,7 @@ use mojette::{Direction, Fault, Record, Size, Table};
 use samples::Kind;
 
 // Adds each sample of the picture to the sum of its bin, in the order of the cells. Column and row give the bin as well as the
-// cell, so that the loops count them.
+// cell, so that the loops count them. (Size and place, as for `lay`.)
 fn add_up<K: Kind>(size: Size, place: Place, picture: &[K], sums: &mut [K])
     requires small { (place.slope ≤ 7) × (place.q ≤ 7) }
     requires room { (size.columns * size.rows ≤ length picture.now) × (bins size.columns size.rows (direction_of place) ≤ length sums.old) }

@@ -101,7 +101,7 @@ impl Coded for Pair<SumWord, XorWord> {
     }
 }
 
-// A digit as a byte: 0 to 9, A to F.
+// A digit as a byte: 0 to 9, A to F. By own code, here and below: the library's readers of digits take small letters too.
 fn hex_byte(digit: u8) -> u8
     requires { digit < 16 }
     ensures { result ≡ hex_byte digit }

@@ -52,6 +52,7 @@ fn bin_of<K: Kind>(
     ensures { outcome result ≡ asked_bin K.Kind (rack_meaning (shape plan.now).P (shape plan.now).Q records.now run.now) i b }
 {
     let record = place_of(records, i)?;
+    // The test that the strip makes too: a function of it would be no plainer.
     if record.cause != 0 {
         return Err(Fault::Lost(record.cause));
     }

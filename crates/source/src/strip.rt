@@ -58,6 +58,7 @@ fn write_means<S: Source<Sample = SumWord>>(
     requires counts { (b : ℕ) → b < length counts.now → (slice_index_or counts.now b sum_zero).value ≡ pixels_in (S.meaning source.now).P (S.meaning source.now).Q (place_at (S.meaning source.now) place).entry.direction b }
     ensures { out.new ≡ map (mean_at (S.meaning source.now) place) (range_with_len 0 (length counts.now)) }
 {
+    // The counts by index: what is written through a zip of `iter_mut` is not known.
     for (b, cell) in out.iter_mut().enumerate() {
         let Ok(sum) = source.bin(place, b) else {
             unreachable()

@@ -12,7 +12,7 @@ use mojette::{Fault, Table};
 use plan::Plan;
 use samples::Kind;
 
-// The first position whose sum is not zero, as place and bin.
+// The first position whose sum is not zero, as place and bin: two numbers that the refusal tells.
 fn first_left<K: Kind>(plan: &Plan, sums: &[K]) -> Option<(usize, usize)>
     requires { bins_of (shape plan.now) ≤ length sums.now }
     ensures { MatchOption result (first_left_over K.Kind (bins_of (shape plan.now)) sums.now ≡ bins_of (shape plan.now)) (λ w. Stands plan.now (first_left_over K.Kind (bins_of (shape plan.now)) sums.now) w.0 w.1) }
@@ -34,7 +34,8 @@ fn first_left<K: Kind>(plan: &Plan, sums: &[K]) -> Option<(usize, usize)>
 }
 
 impl Peeling {
-    // Finishes a tile with no pixel missing, no grant out and no sum left over.
+    // Finishes a tile with no pixel missing, no grant out and no sum left over. Each refusal is made where it is found: a function
+    // for one would take the tile and give it back.
     #[tactic(auto, using(std::proofs::lemmas::Bool::Decides::nat_tests), unfolding(law::specs::Steps::finish, law::specs::Steps::short_sums, peeling::specs::Steps::finish_answers))]
     pub fn finish<K: Kind>(self, plan: &Plan, sums: &[K]) -> Result<Finished, Refused<Peeling>>
         ensures step { Finishes K.Kind plan.now self sums.now result }

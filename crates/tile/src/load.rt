@@ -11,7 +11,7 @@ use crate::states::{Loading, Refused};
 use mojette::{Direction, Fault, Record, Table};
 use plan::{Place, Plan};
 use samples::Kind;
-use source::Source;
+use source::{Sizes, Source};
 
 // Bin b of a place, zero where it is lost. That the place is one of the source stands in a clause, as for the strip.
 fn bin_or_zero<S: Source>(source: &S, i: usize, b: usize) -> S::Sample
@@ -55,12 +55,13 @@ fn fits_plan<S: Source>(source: &S, plan: &Plan, i: usize) -> bool
     requires { i < length (places_of plan.now) }
     ensures { result ≡ fits (shape plan.now) (S.meaning source.now) i }
 {
-    let sizes = source.sizes();
     let places = plan.places();
-    if sizes.columns != plan.columns()
-        || sizes.rows != plan.rows()
-        || sizes.places != places.len()
-    {
+    let sizes = Sizes {
+        columns: plan.columns(),
+        rows: plan.rows(),
+        places: places.len(),
+    };
+    if source.sizes() != sizes {
         return false;
     }
     let record = record_of(places[i]);
@@ -68,7 +69,7 @@ fn fits_plan<S: Source>(source: &S, plan: &Plan, i: usize) -> bool
 }
 
 impl Loading {
-    // Loads the next place: the source's bins at their positions, or zeros where the place is lost.
+    // Loads the next place: the source's bins at their positions, or zeros where the place is lost. (Refusals are made in place, as in `finish`.)
     #[tactic(auto, using(std::proofs::lemmas::Bool::Decides::nat_tests), unfolding(law::specs::Steps::load, law::specs::Steps::short_sums, law::specs::Steps::with_place))]
     pub fn load<S: Source>(
         self,

@@ -16,7 +16,7 @@ use plan::Plan;
 use samples::{Kind, minus};
 use walk::{Pixel, bin_at};
 
-// Takes v off the bin at one position, which is appended where its count becomes 1.
+// Takes v off the bin at one position, which is appended where its count becomes 1. Plan, state and tables are lent one by one, as for a settle.
 #[tactic(auto, using(std::proofs::lemmas::Bool::Decides::nat_tests), unfolding(peeling::specs::Steps::take_off, peeling::specs::Steps::append, peeling::specs::Steps::lowered))]
 fn take_off<K: Kind>(plan: &Plan, v: K, at: usize, state: &mut State, tables: &mut Tables<K>)
     requires at { at < bins_of (shape plan.now) }
@@ -33,7 +33,7 @@ fn take_off<K: Kind>(plan: &Plan, v: K, at: usize, state: &mut State, tables: &m
     }
 }
 
-// Takes v off the bin of a pixel in each whole place, in order.
+// Takes v off the bin of a pixel in each whole place, in order. (Lent one by one, as for a settle.)
 pub(crate) fn take_off_all<K: Kind>(
     plan: &Plan,
     pixel: Pixel,

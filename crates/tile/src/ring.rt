@@ -39,7 +39,7 @@ pub(crate) fn append(state: &mut State, queue: &mut [u16], bins: usize, at: usiz
 }
 
 impl Peeling {
-    // Grants the first position that waits.
+    // Grants the first position that waits. (Refusals are made in place, as in `finish`.)
     #[tactic(auto, using(std::proofs::lemmas::Bool::Decides::nat_tests), unfolding(law::specs::Steps::take, law::specs::Steps::short_queue, peeling::specs::Steps::take_answers, peeling::specs::Steps::front, peeling::specs::Steps::taken))]
     pub fn take(self, plan: &Plan, queue: &[u16]) -> Result<(Peeling, Grant), Refused<Peeling>>
         ensures { Takes sum_words plan.now self queue.now result }
@@ -73,7 +73,7 @@ impl Peeling {
         Ok((Peeling { state }, Grant { position }))
     }
 
-    // Appends the position of a grant again.
+    // Appends the position of a grant again. (Refusals are made in place, as in `finish`: what goes back here is two values.)
     #[tactic(auto, using(std::proofs::lemmas::Bool::Decides::nat_tests), unfolding(law::specs::Steps::give_back, law::specs::Steps::short_queue, peeling::specs::Steps::append, peeling::specs::Steps::handed_in))]
     pub fn give_back(
         self,

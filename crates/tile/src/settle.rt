@@ -19,7 +19,8 @@ use samples::Kind;
 use walk::lone_pixel;
 
 // Where the bin at a position is whole and exactly one pixel of it is missing, that pixel takes the bin's sum.
-// The answer is the pixel's cell.
+// The answer is the pixel's cell. Plan, state and tables are lent one by one: a state with its tables in one struct would be made of lent parts, and what is
+// written through such a one is not known afterwards.
 #[tactic(auto, using(std::proofs::lemmas::Bool::Decides::nat_tests, walk::proofs::Finding::lone_there), unfolding(law::specs::Steps::finds, peeling::specs::Steps::peeled, peeling::specs::Steps::find, peeling::specs::Steps::placed, peeling::specs::Steps::one_found, peeling::specs::Steps::open_in))]
 fn peel_bin<K: Kind>(
     plan: &Plan,
@@ -34,9 +35,7 @@ fn peel_bin<K: Kind>(
     ensures world { world_of state.new (held tables.new) ≡ peeled K.Kind (incidence (shape plan.now)) at (world_of state.old (held tables.old)) }
 {
     let marks = &mut *tables.marks;
-    let Some(pixel) = lone_pixel(plan, at, marks) else {
-        return None;
-    };
+    let pixel = lone_pixel(plan, at, marks)?;
     marks[pixel.cell] = 1;
     let v = tables.sums[at];
     tables.picture[pixel.cell] = v;
@@ -47,7 +46,7 @@ fn peel_bin<K: Kind>(
 
 impl Peeling {
     // Spends a grant. The answer is the cell of the pixel that is found, or none, and how many pixels are missing. The tables are the
-    // callers' and stay slices.
+    // callers' and stay slices. The pair is one of the forms that docs/DECISIONS.md names.
     #[tactic(auto, using(std::proofs::lemmas::Bool::Decides::nat_tests, crate::proofs::Checks::all_long_at), unfolding(law::specs::Steps::settle, peeling::specs::Steps::spent))]
     pub fn settle<K: Kind>(
         self,

@@ -1,4 +1,4 @@
-// One case of each set.
+// One case of each set. Each function takes the allocator, the words of its line and the output: one struct of the three would be taken apart in each.
 use crate::shows::{Failure, show_numbers};
 use crate::words::Words;
 use mojette::{Fault, Record, Refusal};

@@ -29,7 +29,7 @@ impl<'a> Words<'a> {
         self.word().parse().unwrap_or_default()
     }
 
-    // P and Q.
+    // P and Q: any two numbers, as the calls take them.
     pub fn sides(&mut self) -> (usize, usize) {
         let columns = self.number();
         let rows = self.number();

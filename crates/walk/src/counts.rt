@@ -29,6 +29,7 @@ impl Columns {
 
 // Counts the pixels of a direction that goes both across and down, in the bins of its place. A bin has the pixels of the bin one
 // row before it, moved by that row, with those of a column that begins there, and without those of a column that has come to its end.
+// (Size and place, which a plan holds apart.)
 fn count_slanted(size: Size, place: Place, bins: &mut [u8])
     requires line { OnTile size.columns size.rows place.q place.slope 0 }
     requires place { whole (record_of place) ≡ true }
@@ -58,7 +59,7 @@ fn count_slanted(size: Size, place: Place, bins: &mut [u8])
     }
 }
 
-// Counts the pixels of the bins of one place. Rows and columns are at most 64, and fit a byte.
+// Counts the pixels of the bins of one place. Rows and columns are at most 64, and fit a byte. (Size and place, which a plan holds apart.)
 fn count_place(size: Size, place: Place, counts: &mut [u8])
     requires { LaidWithin size.columns size.rows place (length counts.old) }
     ensures { counts.new ≡ written place.start place.bins (pixels_of_bin size.columns size.rows place) counts.old }

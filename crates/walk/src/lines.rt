@@ -7,7 +7,8 @@ use crate::line::Line;
 use crate::pixel::Pixel;
 
 impl Line {
-    // A pixel that no pixel of the line comes before, near the first of them: one division saves the walk along the edge.
+    // A pixel that no pixel of the line comes before, near the first of them: one division saves the walk along the edge. Its x and y are two
+    // numbers here and below, since one of them steps at a time.
     fn corner(self) -> (usize, usize)
         ensures { Corner self result.0 result.1 }
     {

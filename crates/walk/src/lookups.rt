@@ -10,7 +10,7 @@ use crate::line::Line;
 use crate::pixel::Pixel;
 use plan::{Place, Plan};
 
-// The place and the bin at a position; none where the plan has no such position. There are sixteen places at most: a walk finds it.
+// The place and the bin at a position, two numbers that callers take apart; none where the plan has no such position. There are sixteen places at most: a walk finds it.
 pub fn place_of(plan: &Plan, at: usize) -> Option<(usize, usize)>
     ensures is { result ≡ standing (shape plan.now) at }
     ensures stands { MatchOption result (bins_of (shape plan.now) ≤ at) (λ w. Stands plan.now at w.0 w.1) }

@@ -24,7 +24,7 @@ impl<'a> Writer<'a> {
         self.put(b")\n");
     }
 
-    // The lines of the lost places.
+    // The lines of the lost places. (Whether a record is lost is one test, here and where the lines are measured.)
     pub(crate) fn put_lost(&mut self, records: &[Record])
         requires { has_room self.old (lost_text 0 records.now []) }
         ensures { Writes (lost_text 0 records.now []) self.old self.new }
