@@ -3,7 +3,7 @@ use Rattle.std.proofs.Common.{◌≡◌, ℕ, zero, suc, ◌*◌, ◌<◌, ◌�
 use Rattle.std.proofs.lemmas.Bool.{true≢false, cases_Bool, cond-false, le-ltb}
 use Rattle.samples.specs.declared.kind.Kind.{Ghosts as Operations}
 use Rattle.mojette.specs.Faults.{refusal_of}
-use Rattle.mojette.specs.Meaning.{Meaning, Ghost, Lawful, shape_of, bins_of, pixels_of}
+use Rattle.mojette.specs.Meaning.{Meaning, Ghost, Lawful, verdict, shape_of, bins_of, pixels_of}
 use Rattle.mojette.specs.Refusals.{Refusal, refusal}
 use Rattle.peeling.specs.History.{out, missing}
 use Rattle.peeling.specs.Steps.{first_left_over, finish_answers, left_over, Finished}
@@ -15,7 +15,7 @@ use Rattle.law.specs.Law.{T, Found, grants_of, shown, ghosts_remain, WhileLoadin
 use Rattle.law.specs.Life.{History, Life, born, event, loaded_places, since_seal, LongEnough}
 use Rattle.law.specs.Life as calls
 use Rattle.law.specs.Positions.{incidence, place_at, bin_at}
-use Rattle.law.specs.Steps.{loading, peeling, finished, Tables, done, refused, Outcome, criterion, C, R, short, seal, finish, finish_outcome}
+use Rattle.law.specs.Steps.{loading, peeling, finished, Tables, done, refused, Outcome, world_of, criterion, C, R, short, seal, finish, finish_outcome}
 use Rattle.law.proofs.Lives.{kept, finish_is}
 use Rattle.law.proofs.Outcome.{law}
 use Rattle.law.proofs.Sealing.{none_short, seal_ghost, seal_accepted}
@@ -26,12 +26,15 @@ use Rattle.tile.specs.declared.states.Peeling.{Peeling}
 use Rattle.tile.specs.declared.states.Refused.{Refused}
 use Rattle.tile.specs.Calls.{Seals, Finishes}
 use Rattle.tile.specs.Outcomes.{tables, seal_outcome}
+use Rattle.tile.specs.Outcomes as outcomes
 use Rattle.tile.specs.Worlds.{short_refusal}
 use Rattle.tile.proofs.Checks.{all_long}
 use Rattle.tile.proofs.Living.{calls_live}
 use Rattle.runs.specs.Rebuilding.{Ready, Rebuilds, unlawful, too_short, ghosted, contradicted, rebuilt, CanBeRebuilt, Served, ServesExactly, served, refuses}
 use Rattle.runs.specs.Rebuilding as answers
 use Rattle.runs.specs.Runs.{LoadsAll, AllLoaded, PeelsAll, AllPeeled, AtRest}
+use Rattle.runs.specs.Turns.{loaded}
+use Rattle.runs.specs.Worker.{one_worker, with_tables, sealing, finishing, ends}
 use Rattle.runs.proofs.Turns.{not_both}
 
 same_refusal : {r s : Refusal} → refused r ≡ refused s → r ≡ s
@@ -153,6 +156,14 @@ module _ {S : Type 0} (K : Operations S) (m : Meaning S) (plan : Plan) (lawful :
       go zero is e = absurd cc
       go (suc k) is e = let same : r ≡ refusal 5 (suc k) 0 0 = cc in subst (λ a. Rebuilds K m before (refuses a) before) (sym same) (too_short lawful is)
 
+  pub short_steps : (r : Refusal) → Some r ≡ short_refusal (short (shape plan) before) → (refuses r, before) ≡ one_worker K m before
+  unfolding one_worker
+  short_steps r e = rw lawful (go (short (shape plan) before) (ap (λ s. short s before) (sym own)) e)
+    where
+      go : (n : ℕ) → short (shape_of m) before ≡ n → Some r ≡ short_refusal n → (refuses r, before) ≡ with_tables K m (short (shape_of m) before) before
+      go zero is e = absurd cc
+      go (suc k) is e = let same : r ≡ refusal 5 (suc k) 0 0 = cc in rw is (ap (λ a. (refuses a, before)) same)
+
   none_loaded : loaded_places (event calls.opens done ∷ []) ≡ 0
   unfolding loaded_places
   none_loaded = refl
@@ -165,38 +176,72 @@ module _ {S : Type 0} (K : Operations S) (m : Meaning S) (plan : Plan) (lawful :
     first_life : Life K m (event calls.opens done ∷ []) (loading x.loaded) before
     first_life = subst (λ n. Life K m (event calls.opens done ∷ []) (loading n) before) (sym none) (born lawful is_ready.long)
 
+    steps_are : one_worker K m before ≡ sealing K m (seal K (shape_of m) (length m.places) (loaded K m (length m.places) before))
+    unfolding one_worker
+    steps_are = rw (lawful, none_short (shape_of m) before is_ready.long) refl
+
     -- `before` with the sums that are loaded
     abbrev filled : List S → Tables S
     filled sums = tables before.picture before.marks sums before.counts before.queue
 
     module _ (sums : List S) where
-      pub loads_end : (r : Result Loading (Refused Loading)) → LoadsAll K m plan x before.sums r sums → AllLoaded K m r (filled sums)
+      pub loads_end : (r : Result Loading (Refused Loading)) → LoadsAll K m plan x before.sums r sums → AllLoaded K m before r (filled sums)
       loads_end r loads = loads own before.picture before.marks before.counts before.queue (event calls.opens done ∷ []) first_life none_loaded
 
       module _ (y : Loading) (loads : LoadsAll K m plan x before.sums (Ok y) sums) (t : Tables S) where
-        loaded : AllLoaded K m (Ok y) (filled sums)
-        loaded = loads_end (Ok y) loads
+        loads_so : AllLoaded K m before (Ok y) (filled sums)
+        loads_so = loads_end (Ok y) loads
+
+        seals_so : (r : Result Peeling (Refused Loading)) → Seals K plan y (filled sums) r t →
+            seal_outcome r t ≡ seal K (shape_of m) (length m.places) (loaded K m (length m.places) before)
+        seals_so r e = e ∙ ap (λ s. seal K s y.loaded (filled sums)) own
+            ∙ ap (λ n. seal K (shape_of m) n (filled sums)) ((kept K m loads_so.1).count ∙ loads_so.2)
+            ∙ ap (seal K (shape_of m) (length m.places)) loads_so.3
+
+        pub unsealed_steps : (r : Refused Loading) → Seals K plan y (filled sums) (Err r) t → (refuses (refusal_of r.fault), t) ≡ one_worker K m before
+        unsealed_steps r e = ap (sealing K m) (seals_so (Err r) e) ∙ sym steps_are
 
         pub run_unsealed : (r : Refused Loading) → Seals K plan y (filled sums) (Err r) t → Rebuilds K m before (refuses (refusal_of r.fault)) t
-        run_unsealed = seal_refused K m plan own before is_ready y (filled sums) t loaded.0 loaded.1 loaded.2
+        run_unsealed = seal_refused K m plan own before is_ready y (filled sums) t loads_so.0 loads_so.1 loads_so.2
 
         module _ (z : Peeling) (seals : Seals K plan y (filled sums) (Ok z) t) where
-          pub peels_end : (r : Result Peeling (Refused (Peeling × Grant))) (t' : Tables S) → PeelsAll K plan z t r t' → AllPeeled K m r t'
-          peels_end r t' peels = peels m (event calls.seals done ∷ loaded.0) own
-              (sealed K m plan own before is_ready y (filled sums) t loaded.0 loaded.1 loaded.2 z seals) (none_out_yet K m plan own before is_ready y (filled sums) t loaded.0 loaded.1 loaded.2 z seals)
+          pub peels_end : (r : Result Peeling (Refused (Peeling × Grant))) (t' : Tables S) → PeelsAll K plan z t r t' → AllPeeled K m (world_of z.state t) r t'
+          peels_end r t' peels = peels m (event calls.seals done ∷ loads_so.0) own
+              (sealed K m plan own before is_ready y (filled sums) t loads_so.0 loads_so.1 loads_so.2 z seals) (none_out_yet K m plan own before is_ready y (filled sums) t loads_so.0 loads_so.1 loads_so.2 z seals)
 
           module _ (w : Peeling) (t' : Tables S) (peels : PeelsAll K plan z t (Ok w) t') where
             passes : criterion (shape_of m) ≡ true
-            passes = criterion_holds K m plan own before is_ready y (filled sums) t loaded.0 loaded.1 loaded.2 z seals
+            passes = criterion_holds K m plan own before is_ready y (filled sums) t loads_so.0 loads_so.1 loads_so.2 z seals
 
-            peeled : AllPeeled K m (Ok w) t'
+            peeled : AllPeeled K m (world_of z.state t) (Ok w) t'
             peeled = peels_end (Ok w) t' peels
+
+            peels_so : sealing K m (seal_outcome (Ok z) t) ≡ finishing K m (world_of w.state t')
+            peels_so = ap (finishing K m) (sym peeled.3)
+
+            finishes_so : (r : Result FinishedTile (Refused Peeling)) → Finishes K plan w t'.sums r → outcomes.finish_outcome r t' ≡ finish K (shape_of m) w.state t'
+            finishes_so r e = e t'.picture t'.marks t'.counts t'.queue ∙ ap (λ s. finish K s w.state t') own
+
+            all_steps : one_worker K m before ≡ finishing K m (world_of w.state t')
+            all_steps = steps_are ∙ ap (sealing K m) (sym (seals_so (Ok z) seals)) ∙ peels_so
+
+            pub served_steps : (f : FinishedTile) → Finishes K plan w t'.sums (Ok f) → f.cells ≡ pixels_of (shape plan) → (served f.cells, t') ≡ one_worker K m before
+            served_steps f e size = ap (λ n. (served n, t')) (size ∙ ap pixels_of own)
+                ∙ ap (λ o. ends K m o.answer t') (finishes_so (Ok f) e) ∙ sym all_steps
+
+            pub unfinished_steps : (r : Refused Peeling) → Finishes K plan w t'.sums (Err r) → (refuses (refusal_of r.fault), t') ≡ one_worker K m before
+            unfinished_steps r e = ap (λ o. ends K m o.answer t') (finishes_so (Err r) e) ∙ sym all_steps
 
             pub run_served : (f : FinishedTile) → Finishes K plan w t'.sums (Ok f) → f.cells ≡ pixels_of (shape plan) → Rebuilds K m before (served f.cells) t'
             run_served = finish_served K m plan own before is_ready passes w t' peeled.0 peeled.1 peeled.2
 
             pub run_unfinished : (r : Refused Peeling) → Finishes K plan w t'.sums (Err r) → Rebuilds K m before (refuses (refusal_of r.fault)) t'
             run_unfinished = finish_refused K m plan own before is_ready passes w t' peeled.0 peeled.1 peeled.2
+
+-- A source that is not lawful.
+pub unlawful_steps : {S : Type 0} (K : Operations S) (m : Meaning S) (before : Tables S) (r : Refusal) → verdict (shape_of m) ≡ Some r → (refuses r, before) ≡ one_worker K m before
+unfolding one_worker
+unlawful_steps K m before r e = rw e refl
 
 -- Served exactly when it can be.
 module _ {S : Type 0} (K : Operations S) (m : Meaning S) where

@@ -4,6 +4,7 @@ ghost use Rattle.mojette.specs.Meaning.{Lawful, shape_of};
 ghost use Rattle.plan.specs.Shapes.{shape};
 ghost use Rattle.law.specs.Law.{Law};
 ghost use Rattle.runs.specs.Rebuilding.{answer, Rebuilds, ServesExactly, Fills};
+ghost use Rattle.runs.specs.Worker.{one_worker};
 ghost use Rattle.tile.specs.Outcomes.{tables};
 ghost use Rattle.tile.specs.Worlds.{StillLent, held};
 
@@ -25,6 +26,7 @@ fn run<S: Source>(
     requires opened { tile.loaded ≡ 0 }
     ensures lent { StillLent tables.old tables.new }
     ensures run { Rebuilds S.Sample.Kind (S.meaning source.now) (held tables.old) (answer result) (held tables.new) }
+    ensures by_steps { (answer result, held tables.new) ≡ one_worker S.Sample.Kind (S.meaning source.now) (held tables.old) }
 {
     tables.check(plan)?;
     let Ok(tile) = load_all(tile, source, plan, tables.sums) else {
@@ -58,6 +60,7 @@ pub fn rebuild<S: Source>(
     queue: &mut [u16],
 ) -> Result<Finished, Fault>
     ensures run { Rebuilds S.Sample.Kind (S.meaning source.now) (tables picture.old marks.old sums.old counts.old queue.old) (answer result) (tables picture.new marks.new sums.new counts.new queue.new) }
+    ensures by_steps { (answer result, tables picture.new marks.new sums.new counts.new queue.new) ≡ one_worker S.Sample.Kind (S.meaning source.now) (tables picture.old marks.old sums.old counts.old queue.old) }
     ensures exactly { ServesExactly S.Sample.Kind (S.meaning source.now) (tables picture.old marks.old sums.old counts.old queue.old) (answer result) }
     ensures plan { Fills (S.meaning source.now) plan.old plan.new }
     ensures law { Law S.Sample.Kind }

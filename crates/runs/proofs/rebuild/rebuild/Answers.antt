@@ -7,7 +7,8 @@ use Rattle.tile.specs.Outcomes.{tables}
 use Rattle.tile.specs.Worlds.{held}
 use Rattle.tile.proofs.Keeping.{as_left}
 use Rattle.runs.specs.Rebuilding.{Rebuilds, unlawful, answer}
-use Rattle.runs.proofs.Endings.{serves_exactly}
+use Rattle.runs.specs.Worker.{one_worker}
+use Rattle.runs.proofs.Endings.{unlawful_steps, serves_exactly}
 use Rattle.runs.proofs.rebuild.rebuild.Goals as goal
 
 -- no shape is both lawful and refused
@@ -24,6 +25,7 @@ returns-in_err-tile g c =
     let run : Rebuilds K m before (answer c.from_residual.result) before = rw (p.1, p.2) (unlawful opens.0) in
     record {
       run = run;
+      by_steps = rw (p.1, p.2) (unlawful_steps K m before (refusal_of c.in_err-tile.field-0.0) opens.0);
       exactly = serves_exactly K m before (answer c.from_residual.result) before run;
       plan = (λ lawful. absurd (never (refusal_of c.in_err-tile.field-0.0) (sym lawful ∙ opens.0)), λ r e. opens.1);
       law = law K;
@@ -38,6 +40,7 @@ returns g c =
     let opens = c.in_ok-tile.ensures in
     record {
       run = subst (Rebuilds K m before (answer c.run.result)) (sym (as_left left (search rules) (search rules) (search rules) (search rules) (search rules))) c.run.ensures.run;
+      by_steps = subst (λ t. (answer c.run.result, t) ≡ one_worker K m before) (sym (as_left left (search rules) (search rules) (search rules) (search rules) (search rules))) c.run.ensures.by_steps;
       exactly = serves_exactly K m before (answer c.run.result) (held left) c.run.ensures.run;
       plan = (λ lawful. opens.1, λ r e. absurd (never r (sym opens.0 ∙ e)));
       law = law K;

@@ -1,8 +1,10 @@
-use Rattle.std.proofs.Common.{◌+◌, ◌∷◌, ap, ◌∙◌, arith}
+use Rattle.std.proofs.Common.{◌≡◌, ◌+◌, ◌∷◌, length, refl, ap, ◌∙◌, arith}
 use Rattle.law.specs.Life.{event}
 use Rattle.law.specs.Life as calls
 use Rattle.law.specs.Steps.{done}
-use Rattle.runs.proofs.Turns.{loaded_one, load_serves, loads_more, same_number}
+use Rattle.tile.specs.Outcomes.{tables}
+use Rattle.runs.specs.Turns.{loaded}
+use Rattle.runs.proofs.Turns.{loaded_one, load_goes, load_serves, loads_more, same_number}
 use Rattle.runs.proofs.steps.load_all.Goals as goal
 
 pub returns-in_err-tile : goal.returns-in_err-tile
@@ -15,7 +17,7 @@ returns-in_err-tile g c = λ own picture marks counts queue h life zero.
     (omega (arith, w.2, c.loop-test.true, c.count-end.ensures, same_number K m plan own)) c.in_err-tile.field-0.0 c.in_err-tile.ensures)
 
 pub loop-init : goal.loop-init
-loop-init g c = λ own picture marks counts queue h life zero. (h, life, zero)
+loop-init g c = λ own picture marks counts queue h life zero. (h, life, zero, refl)
 
 pub loop-preserved : goal.loop-preserved
 loop-preserved g c = λ own picture marks counts queue h life zero.
@@ -26,6 +28,8 @@ loop-preserved g c = λ own picture marks counts queue h life zero.
       loaded_one K m c.args.plan.now own c.loop.tile c.loop.sums c.load.new.sums picture marks counts queue w.0 w.1
           c.in_ok-tile.tile c.in_ok-tile.ensures,
       loads_more K m w.0 ∙ ap (λ n. n + 1) w.2,
+      load_goes K m c.args.plan.now own c.loop.tile c.loop.sums c.load.new.sums picture marks counts queue w.0 w.1
+          c.in_ok-tile.tile c.in_ok-tile.ensures c.loop.counter w.2 (tables picture marks c.args.sums.now counts queue) w.3,
     )
 
 pub returns : goal.returns
@@ -33,4 +37,5 @@ returns g c = λ own picture marks counts queue h life zero.
     let K = g.S.Sample.Kind in
     let m = g.S.Source.meaning c.args.source.now in
     let w = c.loop.invariant own picture marks counts queue h life zero in
-    (w.0, w.1, omega (arith, w.2, c.loop-test.false, c.loop.auto.counter-end, c.count-end.ensures, same_number K m c.args.plan.now own))
+    let all : c.loop.counter ≡ length m.places = omega (arith, c.loop-test.false, c.loop.auto.counter-end, c.count-end.ensures, same_number K m c.args.plan.now own) in
+    (w.0, w.1, w.2 ∙ all, w.3 ∙ ap (λ n. loaded K m n (tables picture marks c.args.sums.now counts queue)) all)
