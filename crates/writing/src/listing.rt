@@ -2,25 +2,29 @@
 ghost use Rattle.std.specs.Prelude.{◌≡◌, ◌≤◌, [], length};
 ghost use Rattle.mojette.specs.Faults.{outcome};
 ghost use Rattle.mojette.specs.Bounds.{most_places};
+ghost use Rattle.plan.specs.Laid.{records_of};
+ghost use Rattle.plan.specs.Shapes.{shape};
 ghost use Rattle.format.specs.Listing.{tile_text, picture_text, ghost_text, refusal_text};
 ghost use Rattle.writing.specs.Splices.{filling, listing};
 
 use crate::tile::lost_len;
 use crate::writer::{Writer, line_len};
-use mojette::{Fault, Record, Refusal, Size, Table};
+use mojette::{Fault, Refusal, Size, Table};
+use plan::{Place, Plan};
 use samples::Coded;
 
-// A tile that begins with a word, with lines for the lost places among some records. The bound of the name's length is a clause:
+// A tile that begins with a word, with lines for the lost ones among some places. The bound of the name's length is a clause:
 // as a law of `Coded` it would be asked of kinds too whose name is never written.
 fn write_tile<K: Coded>(
     out: &mut [u8],
     word: &[u8],
     size: Size,
-    records: &[Record],
+    places: &[Place],
     picture: &[K],
 ) -> Result<usize, Fault>
-    requires short { (length word.now ≤ 255) × ((length K.Coded.name ≤ 255) × (length records.now ≤ most_places)) }
-    ensures { (outcome result, out.new) ≡ listing size.columns size.rows picture.now (tile_text K.Kind K.Coded.own word.now size.columns size.rows records.now picture.now) out.old }
+    requires short { (length word.now ≤ 255) × (length places.now ≤ most_places) }
+    requires name { length K.Coded.name ≤ 255 }
+    ensures { (outcome result, out.new) ≡ listing size.columns size.rows picture.now (tile_text K.Kind K.Coded.own word.now size.columns size.rows (records_of places.now) picture.now) out.old }
 {
     if picture.len() < size.pixels() {
         return Err(Fault::ShortTable(Table::Picture));
@@ -28,13 +32,13 @@ fn write_tile<K: Coded>(
     let name = K::kind_name();
     let head = line_len(word, &[size.columns, size.rows]) + 1 + name.len();
     let row = size.columns * (K::digits() + 1) + 6;
-    let needed = head + lost_len(records) + size.rows * row + 6;
+    let needed = head + lost_len(places) + size.rows * row + 6;
     if out.len() < needed {
         return Err(Fault::ShortOutput(needed));
     }
     let mut writer = Writer::new(out);
     writer.put_head(word, name, size);
-    writer.put_lost(records);
+    writer.put_lost(places);
     writer.put_rows(size, picture);
     writer.put(b"(end)\n");
     Ok(needed)
@@ -48,19 +52,12 @@ pub fn write_picture<K: Coded>(out: &mut [u8], size: Size, picture: &[K]) -> Res
     write_tile(out, b"picture", size, &[], picture)
 }
 
-// The listing of a ghost, with its lost places. The number of records is asked by a clause; it ought to be
-// refused (docs/DECISIONS.md).
-pub fn write_ghost<K: Coded>(
-    out: &mut [u8],
-    size: Size,
-    records: &[Record],
-    picture: &[K],
-) -> Result<usize, Fault>
-    requires places { length records.now ≤ most_places }
+// The listing of a ghost, with the lost places of its plan.
+pub fn write_ghost<K: Coded>(out: &mut [u8], plan: &Plan, picture: &[K]) -> Result<usize, Fault>
     requires name { length K.Coded.name ≤ 255 }
-    ensures { (outcome result, out.new) ≡ listing size.columns size.rows picture.now (ghost_text K.Kind K.Coded.own (record { P = size.columns; Q = size.rows; records = records.now }) picture.now) out.old }
+    ensures { (outcome result, out.new) ≡ listing (shape plan.now).P (shape plan.now).Q picture.now (ghost_text K.Kind K.Coded.own (shape plan.now) picture.now) out.old }
 {
-    write_tile(out, b"ghost", size, records, picture)
+    write_tile(out, b"ghost", plan.size(), plan.places(), picture)
 }
 
 // The listing of a refusal. Into a lent table and with the needed length first, which `Display` does not give.

@@ -1,13 +1,15 @@
 // Writing the parts of a listing.
 ghost use Rattle.std.specs.Prelude.{◌≡◌, ◌*◌, ◌≤◌, [], length};
 ghost use Rattle.mojette.specs.Bounds.{most_places};
+ghost use Rattle.plan.specs.Laid.{records_of};
 ghost use Rattle.format.specs.Listing.{lost_text, rows_text};
 ghost use Rattle.format.specs.Texts.{head_text};
 ghost use Rattle.writing.specs.Lines.{row_text};
 ghost use Rattle.writing.specs.Writers.{has_room, Writes};
 
 use crate::writer::{Writer, line_len};
-use mojette::{Record, Size};
+use mojette::Size;
+use plan::Place;
 use samples::Coded;
 
 impl<'a> Writer<'a> {
@@ -24,14 +26,14 @@ impl<'a> Writer<'a> {
         self.put(b")\n");
     }
 
-    // The lines of the lost places. (Whether a record is lost is one test, here and where the lines are measured.)
-    pub(crate) fn put_lost(&mut self, records: &[Record])
-        requires { has_room self.old (lost_text 0 records.now []) }
-        ensures { Writes (lost_text 0 records.now []) self.old self.new }
+    // The lines of the lost places.
+    pub(crate) fn put_lost(&mut self, places: &[Place])
+        requires { has_room self.old (lost_text 0 (records_of places.now) []) }
+        ensures { Writes (lost_text 0 (records_of places.now) []) self.old self.new }
     {
-        for (i, record) in records.iter().enumerate() {
-            if record.cause != 0 {
-                self.put_line(b"lost", &[i, usize::from(record.cause)]);
+        for (i, place) in places.iter().enumerate() {
+            if place.cause != 0 {
+                self.put_line(b"lost", &[i, usize::from(place.cause)]);
             }
         }
     }
@@ -59,15 +61,15 @@ impl<'a> Writer<'a> {
 }
 
 // How long the lines of the lost places are. Each text is written once and measured once, since a too short output is refused before anything is written.
-pub(crate) fn lost_len(records: &[Record]) -> usize
-    requires { length records.now ≤ most_places }
-    ensures value { result ≡ length (lost_text 0 records.now []) }
+pub(crate) fn lost_len(places: &[Place]) -> usize
+    requires { length places.now ≤ most_places }
+    ensures value { result ≡ length (lost_text 0 (records_of places.now) []) }
     ensures small { result ≤ 784 }
 {
     let mut len = 0;
-    for (i, record) in records.iter().enumerate() {
-        if record.cause != 0 {
-            len += line_len(b"lost", &[i, usize::from(record.cause)]);
+    for (i, place) in places.iter().enumerate() {
+        if place.cause != 0 {
+            len += line_len(b"lost", &[i, usize::from(place.cause)]);
         }
     }
     len

@@ -1,4 +1,5 @@
 use Rattle.std.proofs.Common.{length, ap, ◌∙◌, rules, arith}
+use Rattle.plan.specs.Laid.{records_of}
 use Rattle.format.specs.Listing.{tile_text}
 use Rattle.writing.proofs.OfFilling.{filled, too_short}
 use Rattle.writing.proofs.OfSplices.{writes_more, writes_same}
@@ -9,33 +10,33 @@ pub returns-then-out-needed : goal.returns-then-out-needed
 returns-then-out-needed g c =
     let P = c.args.size.columns in
     let Q = c.args.size.rows in
-    let t = tile_text g.K.Kind g.K.Coded c.args.word.now P Q c.args.records.now c.args.picture.now in
-    let e = counted g.K.Kind g.K.Coded c.args.word.now _ P Q c.args.records.now c.args.picture.now c.kind_name-name.ensures _ _ _ c.line_len.ensures.value c.lost_len.ensures.value c.digits.ensures in
+    let t = tile_text g.K.Kind g.K.Coded c.args.word.now P Q (records_of c.args.places.now) c.args.picture.now in
+    let e = counted g.K.Kind g.K.Coded c.args.word.now _ P Q (records_of c.args.places.now) c.args.picture.now c.kind_name-name.ensures _ _ _ c.line_len.ensures.value c.lost_len.ensures.value c.digits.ensures in
     too_short t c.args.out.now _ e c.if-out-needed.true ∙ all_there P Q c.args.picture.now t c.args.out.now (omega (arith, c.if-picture-pixels.false, c.pixels.ensures))
 
 pub put_rows-requires-clause-room : goal.put_rows-requires-clause-room
 put_rows-requires-clause-room g c =
     let P = c.args.size.columns in
     let Q = c.args.size.rows in
-    let e = counted g.K.Kind g.K.Coded c.args.word.now _ P Q c.args.records.now c.args.picture.now c.kind_name-name.ensures _ _ _ c.line_len.ensures.value c.lost_len.ensures.value c.digits.ensures in
-    let l = length-tile g.K.Kind g.K.Coded c.args.word.now _ P Q c.args.records.now c.args.picture.now c.kind_name-name.ensures in
+    let e = counted g.K.Kind g.K.Coded c.args.word.now _ P Q (records_of c.args.places.now) c.args.picture.now c.kind_name-name.ensures _ _ _ c.line_len.ensures.value c.lost_len.ensures.value c.digits.ensures in
+    let l = length-tile g.K.Kind g.K.Coded c.args.word.now _ P Q (records_of c.args.places.now) c.args.picture.now c.kind_name-name.ensures in
     omega (arith, ap length c.new-writer.ensures.cells, c.if-out-needed.false)
 
 pub put-requires : goal.put-requires
 put-requires g c =
     let P = c.args.size.columns in
     let Q = c.args.size.rows in
-    let e = counted g.K.Kind g.K.Coded c.args.word.now _ P Q c.args.records.now c.args.picture.now c.kind_name-name.ensures _ _ _ c.line_len.ensures.value c.lost_len.ensures.value c.digits.ensures in
-    let l = length-tile g.K.Kind g.K.Coded c.args.word.now _ P Q c.args.records.now c.args.picture.now c.kind_name-name.ensures in
+    let e = counted g.K.Kind g.K.Coded c.args.word.now _ P Q (records_of c.args.places.now) c.args.picture.now c.kind_name-name.ensures _ _ _ c.line_len.ensures.value c.lost_len.ensures.value c.digits.ensures in
+    let l = length-tile g.K.Kind g.K.Coded c.args.word.now _ P Q (records_of c.args.places.now) c.args.picture.now c.kind_name-name.ensures in
     omega (arith, ap length c.new-writer.ensures.cells, c.if-out-needed.false)
 
 pub returns : goal.returns
 returns g c =
     let P = c.args.size.columns in
     let Q = c.args.size.rows in
-    let t = tile_text g.K.Kind g.K.Coded c.args.word.now P Q c.args.records.now c.args.picture.now in
-    let e = counted g.K.Kind g.K.Coded c.args.word.now _ P Q c.args.records.now c.args.picture.now c.kind_name-name.ensures _ _ _ c.line_len.ensures.value c.lost_len.ensures.value c.digits.ensures in
-    let w = writes_same (tile_pieces g.K.Kind g.K.Coded c.args.word.now _ P Q c.args.records.now c.args.picture.now c.kind_name-name.ensures)
+    let t = tile_text g.K.Kind g.K.Coded c.args.word.now P Q (records_of c.args.places.now) c.args.picture.now in
+    let e = counted g.K.Kind g.K.Coded c.args.word.now _ P Q (records_of c.args.places.now) c.args.picture.now c.kind_name-name.ensures _ _ _ c.line_len.ensures.value c.lost_len.ensures.value c.digits.ensures in
+    let w = writes_same (tile_pieces g.K.Kind g.K.Coded c.args.word.now _ P Q (records_of c.args.places.now) c.args.picture.now c.kind_name-name.ensures)
     (writes_more (writes_more (writes_more c.put_head.ensures c.put_lost.ensures) c.put_rows.ensures) c.put.ensures) in
     let same = w.same_table in
     filled t c.args.out.now _ _ c.new-writer.ensures.empty c.new-writer.ensures.cells w (search rules) e (omega (arith, c.if-out-needed.false))
