@@ -4,7 +4,8 @@ use Rattle.std.proofs.lemmas.List.{take_at, drop-drop}
 use Rattle.std.specs.List.{take_while}
 use Rattle.std.proofs.lemmas.Bool.{cond-false}
 use Rattle.std.proofs.lemmas.List.Sums.{take_while-cons}
-use Rattle.format.specs.Tokens.{mark, run, token, after, Unmarked, IsWord}
+use Rattle.samples.specs.Names.{mark, Unmarked, IsWord}
+use Rattle.format.specs.Tokens.{run, token, after}
 use Rattle.format.proofs.OfTokens.{run_split}
 use Rattle.bracket.specs.declared.lexer.Mark.TheVariants.{Open, Close, Space, Newline}
 use Rattle.bracket.specs.Lexing.{mark_of, is_marked}

@@ -6,7 +6,8 @@ use Rattle.mojette.specs.declared.fault.Reason.TheVariants as reasons
 use Rattle.mojette.specs.declared.fault.TextFault.{TextFault}
 use Rattle.mojette.specs.Faults.{reason_number}
 use Rattle.format.specs.Readers.{Worth, good, bad, Parsed, done, fault, Reader}
-use Rattle.format.specs.Tokens.{mark, token, after, IsWord}
+use Rattle.samples.specs.Names.{mark, IsWord}
+use Rattle.format.specs.Tokens.{token, after}
 use Rattle.bracket.specs.declared.lexer.Lexer.{Lexer}
 use Rattle.bracket.specs.declared.lexer.Mark.{Mark}
 use Rattle.bracket.specs.declared.lexer.Mark.TheVariants.{Open, Close, Space, Newline}

@@ -1,7 +1,6 @@
 // Reading a whole file: the layers above the text.
 ghost use Rattle.std.specs.Prelude.{◌≡◌, ◌+◌, take};
 ghost use Rattle.format.specs.Format.{file_reader, line_ends, read_file};
-ghost use Rattle.format.specs.Tokens.{IsWord};
 ghost use Rattle.bracket.specs.Lexing.{ReadsAs};
 ghost use Rattle.bracket.specs.Lines.{held_lines};
 ghost use Rattle.bracket.specs.Means.{meaning_from, file_read};
@@ -20,9 +19,8 @@ fn line_of(text: &[u8], byte: usize) -> usize
 }
 
 impl<'a> Lexer<'a> {
-    // A whole file. What is asked of the kind's name stands in a clause; `Layout::of` says why.
+    // A whole file.
     fn file<K: Coded>(&mut self) -> Result<(Size, Lines), TextFault>
-        requires { IsWord K.Coded.name }
         ensures { ReadsAs (λ v. meaning_from K.Kind K.Coded.own self.old.text.now v.0 (held_lines v.1)) (λ n. file_reader K.Coded.own n) self.old result self.new }
     {
         let size = self.head::<K>()?;
@@ -31,9 +29,8 @@ impl<'a> Lexer<'a> {
     }
 }
 
-// Reads a whole file, and finds the line of a wrong token. The kind's name has its clause here too.
+// Reads a whole file, and finds the line of a wrong token.
 pub(crate) fn lines_of<K: Coded>(text: &[u8]) -> Result<(Size, Lines), FileFault>
-    requires { IsWord K.Coded.name }
     ensures { file_read (λ v. meaning_from K.Kind K.Coded.own text.now v.0 (held_lines v.1)) result ≡ read_file K.Coded.own text.now }
 {
     let mut lexer = Lexer::new(text);

@@ -3,7 +3,6 @@ ghost use Rattle.std.specs.Prelude.{◌≡◌, [], map, None};
 ghost use Rattle.mojette.specs.Bounds.{most_places};
 ghost use Rattle.mojette.specs.Meaning.{Place};
 ghost use Rattle.format.specs.Format.{codes_reader, sums_reader, held_reader, dir_reader, end_reader, places_reader, head_reader};
-ghost use Rattle.format.specs.Tokens.{IsWord};
 ghost use Rattle.bracket.specs.Found.{found_from};
 ghost use Rattle.bracket.specs.Lexing.{ReadsAs};
 ghost use Rattle.bracket.specs.Lines.{is_bins, held_from, place_from, held_lines};
@@ -92,9 +91,8 @@ impl<'a> Lexer<'a> {
         Ok(lines)
     }
 
-    // The first line of a file. What is asked of the kind's name stands in a clause; `Layout::of` says why.
+    // The first line of a file.
     pub(crate) fn head<K: Coded>(&mut self) -> Result<Size, TextFault>
-        requires { IsWord K.Coded.name }
         ensures { ReadsAs (λ size. (size.columns, size.rows)) (head_reader K.Coded.name) self.old result self.new }
     {
         self.mark(Mark::Open)?;

@@ -4,7 +4,6 @@ ghost use Rattle.std.specs.Option.{ok_or};
 ghost use Rattle.mojette.specs.declared.fault.Fault.TheVariants.{NoPlace};
 ghost use Rattle.mojette.specs.Faults.{outcome};
 ghost use Rattle.format.specs.Format.{read_file};
-ghost use Rattle.format.specs.Tokens.{IsWord};
 ghost use Rattle.bracket.specs.Files.{layout_outcome, layout_meaning, file_meaning, asked_file};
 ghost use Rattle.bracket.specs.Found.{found_at};
 ghost use Rattle.bracket.specs.Lines.{held_lines};
@@ -20,10 +19,8 @@ use samples::codes::read_code;
 use std::marker::PhantomData;
 
 impl Layout {
-    // Reads a text of any content and length as a file of a kind of sample. What is asked of the kind's name stands in clauses from
-    // here down: as a law of `Coded` it would be asked of kinds too whose name no file has.
+    // Reads a text of any content and length as a file of a kind of sample.
     pub fn of<K: Coded>(text: &[u8]) -> Result<Layout, Fault>
-        requires { IsWord K.Coded.name }
         ensures { layout_outcome K.Kind K.Coded.own text.now result ≡ asked_file (read_file K.Coded.own text.now) }
     {
         let (size, lines) = lines_of::<K>(text)?;

@@ -4,7 +4,7 @@ ghost use Rattle.std.specs.NonZero.{non_zero_u8_get};
 ghost use Rattle.mojette.specs.Meaning.{side_ok};
 ghost use Rattle.format.specs.Format.{size_word, cause_word, p_word, q_word, code_word, bins_word, line_word, direction_reader};
 ghost use Rattle.format.specs.Readers.{accept, expect};
-ghost use Rattle.format.specs.Tokens.{IsWord};
+ghost use Rattle.samples.specs.Names.{IsWord};
 ghost use Rattle.bracket.specs.Lexing.{Reads, ReadsAs};
 ghost use Rattle.bracket.specs.Lines.{is_bins, is_dir, start_reader};
 

@@ -8,7 +8,7 @@ use Rattle.samples.proofs.Codings.{one_to_one}
 use Rattle.samples.proofs.Digits.{length-hex_text}
 use Rattle.format.specs.Format.{there, code_word}
 use Rattle.format.specs.Readers.{good}
-use Rattle.format.specs.Tokens.{mark, Unmarked, IsWord}
+use Rattle.samples.specs.Names.{mark, Unmarked, IsWord}
 use Rattle.format.proofs.OfNumbers.{word_from}
 
 unmarked_hex : (d : ℕ) → mark (hex_byte d) ≡ false

@@ -7,7 +7,7 @@ use Rattle.std.proofs.lemmas.Str.Parse.{IsNumeralModel, numerals_by_fold}
 use Rattle.std.proofs.lemmas.Bool.{cond-true, cond-false, and_parts, and_from, eqb-true, eqb-false, ne_eqb, leb-true, cases_Bool, not-true, not_from_false}
 use Rattle.std.proofs.lemmas.Bool.Decides.{nat_tests}
 use Rattle.std.specs.Char.{is_ascii_digit}
-use Rattle.format.specs.Tokens.{mark, Unmarked, IsWord}
+use Rattle.samples.specs.Names.{mark, Unmarked, IsWord}
 use Rattle.format.specs.Numbers.{read_on, plain, minus, numeral}
 use Rattle.format.specs.Readers.{good, bad}
 

@@ -4,7 +4,8 @@ use Rattle.std.specs.Str.{bytes_eq}
 use Rattle.std.proofs.lemmas.Slice.Eq.{bytes_eq-Decides}
 use Rattle.std.proofs.lemmas.Bool.{cond-true}
 use Rattle.format.specs.Readers.{Parsed, done, fault, Reader, then, Worth, good, bad, judged, accept, exactly, expect}
-use Rattle.format.specs.Tokens.{mark, run, token, after, IsWord}
+use Rattle.samples.specs.Names.{mark, IsWord}
+use Rattle.format.specs.Tokens.{run, token, after}
 use Rattle.format.proofs.OfTokens.{Ends, token_word, after_word, token_split}
 
 -- Writing ---------------------------------------------------------------------------------------------------------

@@ -2,7 +2,8 @@
 use Rattle.std.proofs.Common.{◌≡◌, ℕ, Bool, true, false, cond, List, [], ◌∷◌, ◌++◌, length, drop, refl, ap, ◌∙◌}
 use Rattle.std.proofs.lemmas.List.{drop_at}
 use Rattle.std.proofs.lemmas.Bool.{cond-true, cond-false}
-use Rattle.format.specs.Tokens.{mark, run, token, after, Unmarked, IsWord}
+use Rattle.samples.specs.Names.{mark, Unmarked, IsWord}
+use Rattle.format.specs.Tokens.{run, token, after}
 
 -- no word goes on at the front of bs
 abbrev pub Ends : List ℕ → Type 0

@@ -17,7 +17,7 @@ use Rattle.format.specs.Format.{most_cause, size_word, cause_word, p_word, q_wor
 use Rattle.format.specs.Laws.{Causes, ReadsBack}
 use Rattle.format.specs.Readers.{Parsed, done, Reader, then, accept, exactly}
 use Rattle.format.specs.Texts.{codes_text, head_text, direction_text, bin_sums, trimmed_place, trimmed, held_text, dir_text, places_text, file_text}
-use Rattle.format.specs.Tokens.{IsWord}
+use Rattle.samples.specs.Names.{IsWord}
 use Rattle.format.proofs.OfCodes.{word_code, sample_there}
 use Rattle.format.proofs.OfNumbers.{word_decimal, word_signed}
 use Rattle.format.proofs.OfPlaces.{Steps, lawful_parts}

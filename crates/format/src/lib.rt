@@ -3,7 +3,6 @@
 
 ghost use Rattle.format.specs.Kinds.{pair_operations};
 ghost use Rattle.format.specs.Laws.{OneText};
-ghost use Rattle.format.specs.Tokens.{IsWord};
 ghost use Rattle.samples.specs.contracts.codes.PairSumWordXorWordCoded.TheImpl.{ghosts as pair_codes};
 ghost use Rattle.samples.specs.contracts.codes.SumWordCoded.TheImpl.{ghosts as sum_codes};
 ghost use Rattle.samples.specs.contracts.codes.XorWordCoded.TheImpl.{ghosts as xor_codes};
@@ -12,10 +11,8 @@ ghost use Rattle.samples.specs.contracts.impls.XorWordKind.TheImpl.{ghosts as xo
 
 use samples::{Coded, Pair, SumWord, XorWord};
 
-// Each lawful meaning has one text, which is read as that meaning, and all other text is refused: for every kind whose name is a word. That is a
-// clause: as a law of `Coded` it would be asked of kinds too whose name no file has.
+// Each lawful meaning has one text, which is read as that meaning, and all other text is refused: for every kind that has codes.
 pub fn one_text<K: Coded>()
-    requires { IsWord K.Coded.name }
     ensures { OneText K.Kind K.Coded.own }
 {}
 

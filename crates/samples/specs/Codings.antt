@@ -1,12 +1,16 @@
--- The numbers of sum words, XOR words and pairs of one of each; codes and their reading for every kind that has them.
-use Rattle.std.specs.Prelude.{ℕ, ◌+◌, ◌*◌, ◌/◌, ◌^◌}
+-- The names and numbers of sum words, XOR words and pairs of one of each; codes and their reading for every kind that has them.
+use Rattle.std.specs.Prelude.{codes as text, refl, ℕ, ◌+◌, ◌*◌, ◌/◌, ◌^◌}
 use Rattle.std.proofs.Common.{arith, lit<, lit≤}
 use Rattle.samples.specs.declared.words.Pair.{Pair}
 use Rattle.samples.specs.declared.words.SumWord.{SumWord}
 use Rattle.samples.specs.declared.words.XorWord.{XorWord}
 use Rattle.samples.specs.Codes.{Coding}
+use Rattle.samples.specs.Names.{Naming}
 use Rattle.samples.specs.Pairs.{pair_of}
 use Rattle.samples.specs.Words.{sum_of, sum_same, xor_of, xor_same}
+
+pub sum_naming : Naming (text "sum")
+sum_naming = record { word = (refl, (refl, (refl, tt))); short = lit≤ tt }
 
 abbrev pub sum_number : SumWord → ℕ
 sum_number x = x.value
@@ -20,6 +24,9 @@ sum_coding = record {
   number_sample = λ n h. omega arith;
 }
 
+pub xor_naming : Naming (text "xor")
+xor_naming = record { word = (refl, (refl, (refl, tt))); short = lit≤ tt }
+
 abbrev pub xor_number : XorWord → ℕ
 xor_number x = x.value
 
@@ -31,6 +38,9 @@ xor_coding = record {
   sample_number = λ x. xor_same _ _ (let f = x.fits in omega arith);
   number_sample = λ n h. omega arith;
 }
+
+pub pair_naming : Naming (text "pair")
+pair_naming = record { word = (refl, (refl, (refl, (refl, tt)))); short = lit≤ tt }
 
 -- The digits of the sum word, then those of the XOR word.
 abbrev pub pair_number : Pair SumWord XorWord → ℕ

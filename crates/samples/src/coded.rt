@@ -1,12 +1,16 @@
 // Kinds whose samples have a code. A file of its own, so that `specs/` can name the trait's ghost members.
 ghost use Rattle.std.specs.Prelude.{◌≡◌, ℕ, List};
 ghost use Rattle.samples.specs.Codes.{Coding};
+ghost use Rattle.samples.specs.Names.{Naming};
 
 use crate::kind::Kind;
 
-// A kind with a name, a number of digits, and a number for each sample, which its code writes in that many digits.
+// A kind with a name, which is a word of a file of at most 255 bytes, a number of digits, and a number for each sample, which its code writes in
+// that many digits.
 pub trait Coded: Kind {
     ghost name: { List ℕ };
+
+    ghost naming: { Naming name };
 
     ghost width: { ℕ };
 

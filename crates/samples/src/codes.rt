@@ -1,7 +1,7 @@
 // The code of a sample, and back. The two words differ in name, width and type, which are what the trait names.
 ghost use Rattle.std.specs.Prelude.{◌≡◌, ◌<◌, codes as text};
 ghost use Rattle.samples.specs.Codes.{hex_byte, digit_of};
-ghost use Rattle.samples.specs.Codings.{sum_number, sum_coding, xor_number, xor_coding, pair_number, pair_sample, pair_coding};
+ghost use Rattle.samples.specs.Codings.{sum_naming, sum_number, sum_coding, xor_naming, xor_number, xor_coding, pair_naming, pair_number, pair_sample, pair_coding};
 ghost use Rattle.samples.specs.Reading.{code, read_code, Written, OneToOne};
 ghost use Rattle.samples.specs.Words.{sum_of, xor_of};
 
@@ -11,6 +11,8 @@ use crate::words::{Pair, SumWord, XorWord};
 
 impl Coded for SumWord {
     ghost name = { text "sum" };
+
+    ghost naming = { sum_naming };
 
     ghost width = { 4 };
 
@@ -42,6 +44,8 @@ impl Coded for SumWord {
 impl Coded for XorWord {
     ghost name = { text "xor" };
 
+    ghost naming = { xor_naming };
+
     ghost width = { 8 };
 
     ghost number = { xor_number };
@@ -72,6 +76,8 @@ impl Coded for XorWord {
 // A sum word, then an XOR word.
 impl Coded for Pair<SumWord, XorWord> {
     ghost name = { text "pair" };
+
+    ghost naming = { pair_naming };
 
     ghost width = { 12 };
 

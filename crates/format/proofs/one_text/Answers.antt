@@ -3,4 +3,4 @@ use Rattle.format.proofs.Written.{reads_back}
 use Rattle.format.proofs.one_text.Goals as goal
 
 pub returns : goal.returns
-returns g c = record { reads_back = reads_back g.K.Kind g.K.Coded c.requires; writes_back = writes_back g.K.Kind g.K.Coded }
+returns g c = record { reads_back = reads_back g.K.Kind g.K.Coded g.K.Coded.naming.word; writes_back = writes_back g.K.Kind g.K.Coded }
