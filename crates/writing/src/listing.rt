@@ -13,8 +13,7 @@ use mojette::{Fault, Refusal, Size, Table};
 use plan::{Place, Plan};
 use samples::Coded;
 
-// A tile that begins with a word, with lines for the lost ones among some places. The bound of the name's length is a clause:
-// as a law of `Coded` it would be asked of kinds too whose name is never written.
+// A tile that begins with a word, with lines for the lost ones among some places.
 fn write_tile<K: Coded>(
     out: &mut [u8],
     word: &[u8],
@@ -23,7 +22,6 @@ fn write_tile<K: Coded>(
     picture: &[K],
 ) -> Result<usize, Fault>
     requires short { (length word.now ≤ 255) × (length places.now ≤ most_places) }
-    requires name { length K.Coded.name ≤ 255 }
     ensures { (outcome result, out.new) ≡ listing size.columns size.rows picture.now (tile_text K.Kind K.Coded.own word.now size.columns size.rows (records_of places.now) picture.now) out.old }
 {
     if picture.len() < size.pixels() {
@@ -46,7 +44,6 @@ fn write_tile<K: Coded>(
 
 // The listing of a picture.
 pub fn write_picture<K: Coded>(out: &mut [u8], size: Size, picture: &[K]) -> Result<usize, Fault>
-    requires name { length K.Coded.name ≤ 255 }
     ensures { (outcome result, out.new) ≡ listing size.columns size.rows picture.now (picture_text K.Kind K.Coded.own (record { P = size.columns; Q = size.rows; records = [] }) picture.now) out.old }
 {
     write_tile(out, b"picture", size, &[], picture)
@@ -54,7 +51,6 @@ pub fn write_picture<K: Coded>(out: &mut [u8], size: Size, picture: &[K]) -> Res
 
 // The listing of a ghost, with the lost places of its plan.
 pub fn write_ghost<K: Coded>(out: &mut [u8], plan: &Plan, picture: &[K]) -> Result<usize, Fault>
-    requires name { length K.Coded.name ≤ 255 }
     ensures { (outcome result, out.new) ≡ listing (shape plan.now).P (shape plan.now).Q picture.now (ghost_text K.Kind K.Coded.own (shape plan.now) picture.now) out.old }
 {
     write_tile(out, b"ghost", plan.size(), plan.places(), picture)
