@@ -4,3 +4,5 @@ pub mod OfLines
 pub mod OfLost
 pub mod OfRows
 pub mod OfTile
+pub mod OfPlaces
+pub mod OfFiles

@@ -14,7 +14,7 @@ use Rattle.writing.specs.Lines.{spaced, row_text}
 use Rattle.writing.proofs.OfLines.{spaced_first}
 
 module _ {S : Type 0} (C : Codes S) where
-  codes_told : (xs : List S) (bs : List ℕ) → codes_text C xs bs ≡ spaced (code C) xs ++ bs
+  pub codes_told : (xs : List S) (bs : List ℕ) → codes_text C xs bs ≡ spaced (code C) xs ++ bs
   codes_told [] bs = refl
   codes_told (x ∷ xs) bs = ap (λ l. 32 ∷ (code C x ++ l)) (codes_told xs bs) ∙ sym (spaced_first (code C) x xs bs)
 
@@ -22,7 +22,7 @@ module _ {S : Type 0} (C : Codes S) where
   row_told xs bs =
       ap (λ l. text "(row" ++ l) (codes_told xs (41 ∷ (10 ∷ bs)) ∙ sym (append_assoc (spaced (code C) xs) (41 ∷ (10 ∷ [])) bs))
 
-  length-codes : (xs : List S) → length (spaced (code C) xs) ≡ length xs * suc C.width
+  pub length-codes : (xs : List S) → length (spaced (code C) xs) ≡ length xs * suc C.width
   length-codes [] = omega arith
   length-codes (x ∷ xs) =
       ap suc (length-append (code C x) (spaced (code C) xs))

@@ -29,10 +29,10 @@ head_pieces word name P Q =
     head_join word name (spaced decimal (P ∷ (Q ∷ []))) (41 ∷ (10 ∷ []))
     ∙ ap (λ l. text "(" ++ (word ++ (32 ∷ (name ++ l)))) (spaced_two decimal P Q (41 ∷ (10 ∷ [])))
 
-length-head : (word name : List ℕ) (P Q : ℕ) → length (head_text word name P Q []) ≡ length (line_text word (P ∷ (Q ∷ []))) + 1 + length name
+pub length-head : (word name : List ℕ) (P Q : ℕ) → length (head_text word name P Q []) ≡ length (line_text word (P ∷ (Q ∷ []))) + 1 + length name
 length-head word name P Q = simp length-append (omega arith)
 
-head_on : (word name : List ℕ) (P Q : ℕ) (bs : List ℕ) → head_text word name P Q bs ≡ head_text word name P Q [] ++ bs
+pub head_on : (word name : List ℕ) (P Q : ℕ) (bs : List ℕ) → head_text word name P Q bs ≡ head_text word name P Q [] ++ bs
 head_on word name P Q bs = sym (simp append_assoc)
 
 -- a picture with all pixels
@@ -65,8 +65,8 @@ module _ {S : Type 0} (K : Operations S) (C : Codes S) (word name : List ℕ) (P
 
   -- what the code counts
   pub counted :
-      (line lost digits : ℕ) → line ≡ length (line_text word (P ∷ (Q ∷ []))) → lost ≡ length (lost_text 0 records []) → digits ≡ C.width
-      → line + 1 + length name + lost + Q * (P * (digits + 1) + 6) + 6 ≡ length (tile_text K C word P Q records picture)
-  counted line lost digits a b d =
+      (head lost digits : ℕ) → head ≡ length (head_text word name P Q []) → lost ≡ length (lost_text 0 records []) → digits ≡ C.width
+      → head + lost + Q * (P * (digits + 1) + 6) + 6 ≡ length (tile_text K C word P Q records picture)
+  counted head lost digits a b d =
       let e : Q * (P * (digits + 1) + 6) ≡ Q * (P * suc C.width + 6) = ap (λ n. Q * (P * n + 6)) (ap (λ n. n + 1) d ∙ add-one C.width) in
-      omega (arith, length-tile, length-head word name P Q, length-rows K C P picture 0 Q)
+      omega (arith, length-tile, length-rows K C P picture 0 Q)

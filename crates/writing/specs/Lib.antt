@@ -1,3 +1,4 @@
 pub mod Splices
 pub mod Writers
 pub mod Lines
+pub mod Files

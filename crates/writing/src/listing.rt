@@ -7,7 +7,7 @@ ghost use Rattle.plan.specs.Shapes.{shape};
 ghost use Rattle.format.specs.Listing.{tile_text, picture_text, ghost_text, refusal_text};
 ghost use Rattle.writing.specs.Splices.{filling, listing};
 
-use crate::tile::lost_len;
+use crate::tile::{head_len, lost_len};
 use crate::writer::{Writer, line_len};
 use mojette::{Fault, Refusal, Size, Table};
 use plan::{Place, Plan};
@@ -28,9 +28,8 @@ fn write_tile<K: Coded>(
         return Err(Fault::ShortTable(Table::Picture));
     }
     let name = K::kind_name();
-    let head = line_len(word, &[size.columns, size.rows]) + 1 + name.len();
     let row = size.columns * (K::digits() + 1) + 6;
-    let needed = head + lost_len(places) + size.rows * row + 6;
+    let needed = head_len(word, name, size) + lost_len(places) + size.rows * row + 6;
     if out.len() < needed {
         return Err(Fault::ShortOutput(needed));
     }

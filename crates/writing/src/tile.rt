@@ -60,6 +60,15 @@ impl<'a> Writer<'a> {
     }
 }
 
+// How long the first line is.
+pub(crate) fn head_len(word: &[u8], name: &[u8], size: Size) -> usize
+    requires { (length word.now ≤ 255) × (length name.now ≤ 255) }
+    ensures value { result ≡ length (head_text word.now name.now size.columns size.rows []) }
+    ensures small { result ≤ 600 }
+{
+    line_len(word, &[size.columns, size.rows]) + 1 + name.len()
+}
+
 // How long the lines of the lost places are. Each text is written once and measured once, since a too short output is refused before anything is written.
 pub(crate) fn lost_len(places: &[Place]) -> usize
     requires { length places.now ≤ most_places }

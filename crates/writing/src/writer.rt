@@ -34,7 +34,7 @@ impl<'a> Writer<'a> {
     }
 
     // The code of a sample.
-    fn put_code<K: Coded>(&mut self, sample: K)
+    pub(crate) fn put_code<K: Coded>(&mut self, sample: K)
         requires { has_room self.old (code K.Coded.own sample) }
         ensures { Writes (code K.Coded.own sample) self.old self.new }
     {
@@ -53,7 +53,7 @@ impl<'a> Writer<'a> {
     }
 
     // A number. By own code: the library prints numbers into writers of its own, and a crate for it would be one more to trust.
-    fn put_decimal(&mut self, number: usize)
+    pub(crate) fn put_decimal(&mut self, number: usize)
         requires { has_room self.old (decimal number) }
         ensures { Writes (decimal number) self.old self.new }
     {
@@ -89,7 +89,7 @@ impl<'a> Writer<'a> {
 }
 
 // How many digits a number has.
-fn decimal_len(number: usize) -> usize
+pub(crate) fn decimal_len(number: usize) -> usize
     ensures value { result ≡ length (decimal number) }
     ensures short { result ≤ 20 }
 {
@@ -101,7 +101,7 @@ fn decimal_len(number: usize) -> usize
 }
 
 // How long numbers are, each after a space.
-fn numbers_len(numbers: &[usize]) -> usize
+pub(crate) fn numbers_len(numbers: &[usize]) -> usize
     requires { length numbers.now ≤ 4 }
     ensures value { result ≡ length (spaced decimal numbers.now) }
     ensures short { result ≤ length numbers.now * 21 }

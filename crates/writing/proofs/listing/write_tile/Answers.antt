@@ -11,14 +11,14 @@ returns-then-out-needed g c =
     let P = c.args.size.columns in
     let Q = c.args.size.rows in
     let t = tile_text g.K.Kind g.K.Coded c.args.word.now P Q (records_of c.args.places.now) c.args.picture.now in
-    let e = counted g.K.Kind g.K.Coded c.args.word.now _ P Q (records_of c.args.places.now) c.args.picture.now c.kind_name-name.ensures _ _ _ c.line_len.ensures.value c.lost_len.ensures.value c.digits.ensures in
+    let e = counted g.K.Kind g.K.Coded c.args.word.now _ P Q (records_of c.args.places.now) c.args.picture.now c.kind_name-name.ensures _ _ _ c.head_len.ensures.value c.lost_len.ensures.value c.digits.ensures in
     too_short t c.args.out.now _ e c.if-out-needed.true ∙ all_there P Q c.args.picture.now t c.args.out.now (omega (arith, c.if-picture-pixels.false, c.pixels.ensures))
 
 pub put_rows-requires-clause-room : goal.put_rows-requires-clause-room
 put_rows-requires-clause-room g c =
     let P = c.args.size.columns in
     let Q = c.args.size.rows in
-    let e = counted g.K.Kind g.K.Coded c.args.word.now _ P Q (records_of c.args.places.now) c.args.picture.now c.kind_name-name.ensures _ _ _ c.line_len.ensures.value c.lost_len.ensures.value c.digits.ensures in
+    let e = counted g.K.Kind g.K.Coded c.args.word.now _ P Q (records_of c.args.places.now) c.args.picture.now c.kind_name-name.ensures _ _ _ c.head_len.ensures.value c.lost_len.ensures.value c.digits.ensures in
     let l = length-tile g.K.Kind g.K.Coded c.args.word.now _ P Q (records_of c.args.places.now) c.args.picture.now c.kind_name-name.ensures in
     omega (arith, ap length c.new-writer.ensures.cells, c.if-out-needed.false)
 
@@ -26,7 +26,7 @@ pub put-requires : goal.put-requires
 put-requires g c =
     let P = c.args.size.columns in
     let Q = c.args.size.rows in
-    let e = counted g.K.Kind g.K.Coded c.args.word.now _ P Q (records_of c.args.places.now) c.args.picture.now c.kind_name-name.ensures _ _ _ c.line_len.ensures.value c.lost_len.ensures.value c.digits.ensures in
+    let e = counted g.K.Kind g.K.Coded c.args.word.now _ P Q (records_of c.args.places.now) c.args.picture.now c.kind_name-name.ensures _ _ _ c.head_len.ensures.value c.lost_len.ensures.value c.digits.ensures in
     let l = length-tile g.K.Kind g.K.Coded c.args.word.now _ P Q (records_of c.args.places.now) c.args.picture.now c.kind_name-name.ensures in
     omega (arith, ap length c.new-writer.ensures.cells, c.if-out-needed.false)
 
@@ -35,7 +35,7 @@ returns g c =
     let P = c.args.size.columns in
     let Q = c.args.size.rows in
     let t = tile_text g.K.Kind g.K.Coded c.args.word.now P Q (records_of c.args.places.now) c.args.picture.now in
-    let e = counted g.K.Kind g.K.Coded c.args.word.now _ P Q (records_of c.args.places.now) c.args.picture.now c.kind_name-name.ensures _ _ _ c.line_len.ensures.value c.lost_len.ensures.value c.digits.ensures in
+    let e = counted g.K.Kind g.K.Coded c.args.word.now _ P Q (records_of c.args.places.now) c.args.picture.now c.kind_name-name.ensures _ _ _ c.head_len.ensures.value c.lost_len.ensures.value c.digits.ensures in
     let w = writes_same (tile_pieces g.K.Kind g.K.Coded c.args.word.now _ P Q (records_of c.args.places.now) c.args.picture.now c.kind_name-name.ensures)
     (writes_more (writes_more (writes_more c.put_head.ensures c.put_lost.ensures) c.put_rows.ensures) c.put.ensures) in
     let same = w.same_table in

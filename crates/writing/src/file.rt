@@ -1,0 +1,28 @@
+// Writing files.
+ghost use Rattle.std.specs.Prelude.{◌≡◌, ◌≤◌, length};
+ghost use Rattle.mojette.specs.Faults.{outcome};
+ghost use Rattle.writing.specs.Files.{file_filling};
+
+use crate::place::file_len;
+use crate::writer::Writer;
+use mojette::Fault;
+use samples::Coded;
+use source::{Source, plan_of};
+
+// The text of a source: lawfulness first, then the length that is needed. What a source is asked after that, it answers.
+pub fn write_file<K: Coded, S: Source<Sample = K>>(
+    source: &S,
+    out: &mut [u8],
+) -> Result<usize, Fault>
+    requires name { length K.Coded.name ≤ 255 }
+    ensures { (outcome result, out.new) ≡ file_filling K.Kind K.Coded.own (S.meaning source.now) out.old }
+{
+    let plan = plan_of(source)?;
+    let needed = file_len::<K>(&plan);
+    if out.len() < needed {
+        return Err(Fault::ShortOutput(needed));
+    }
+    let mut writer = Writer::new(out);
+    writer.put_file(source, &plan);
+    Ok(needed)
+}
