@@ -8,3 +8,4 @@ pub mod OfLineEnds
 pub mod OfFile
 pub mod OfLayout
 pub mod OfQuestions
+pub mod OfKinds

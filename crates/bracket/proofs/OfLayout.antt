@@ -15,7 +15,7 @@ module _ {S : Type 0} (K : Operations S) (C : Codes S) (t : List ℕ) (z : Size)
   records [] = refl
   records (x ∷ xs) = ap (λ es. record_of x ∷ es) (records xs)
 
-  pub lawful_layout : (lines : List Line) → file (meaning_from K C t z lines) ≡ read_file C t → is_some (verdict (shape_from z lines)) ≡ false
+  pub lawful_layout : (lines : List Line) → read_file C t ≡ file (meaning_from K C t z lines) → is_some (verdict (shape_from z lines)) ≡ false
   lawful_layout lines h =
       (λ i. is_some (verdict (record { P = z.columns; Q = z.rows; records = sym (records lines) i })))
-      ∙ ap is_some (writes_back K C t (meaning_from K C t z lines) (sym h)).lawful
+      ∙ ap is_some (writes_back K C t (meaning_from K C t z lines) h).lawful

@@ -1,5 +1,5 @@
 -- What a file that was read means, and what is told of a text that is no file.
-use Rattle.std.specs.Prelude.{ℕ, List, Ok, Err, Result}
+use Rattle.std.specs.Prelude.{Ok, Err, Result}
 use Rattle.samples.specs.declared.coded.Coded.{Ghosts as Codes}
 use Rattle.samples.specs.declared.kind.Kind.{Ghosts as Operations}
 use Rattle.mojette.specs.declared.fault.Fault.{Fault}
@@ -8,24 +8,20 @@ use Rattle.mojette.specs.Meaning.{Meaning}
 use Rattle.mojette.specs.Refusals.{refusal}
 use Rattle.format.specs.Format.{Read, file, refused}
 use Rattle.bracket.specs.declared.bracket_file.BracketFile.{BracketFile}
-use Rattle.bracket.specs.declared.layout.Layout.{Layout}
 use Rattle.bracket.specs.Lines.{held_lines}
 use Rattle.bracket.specs.Means.{meaning_from}
 
-module _ {S : Type 0} (K : Operations S) (C : Codes S) where
-  -- what a layout means in a text
-  abbrev pub layout_meaning : List ℕ → Layout → Meaning S
-  layout_meaning t x = meaning_from K C t x.size (held_lines x.lines)
-
-  abbrev pub file_meaning : BracketFile S → Meaning S
-  file_meaning f = layout_meaning f.text.now f.layout
+module _ {S : Type 0} {C : Codes S} {K : Operations S} where
+  -- what a file means, read off what it holds: its text, with the size and the lines that were found in it
+  abbrev pub file_meaning : BracketFile S C K → Meaning S
+  file_meaning f = meaning_from K C f.text.now f.size (held_lines f.lines)
 
   -- what a call that reads a text answered
-  abbrev pub layout_outcome : List ℕ → Result Layout Fault → Outcome (Meaning S)
-  layout_outcome t (Ok x) = served (layout_meaning t x)
-  layout_outcome t (Err e) = refuses (refusal_of e)
+  abbrev pub made : Result (BracketFile S C K) Fault → Outcome (Meaning S)
+  made (Ok f) = served (file_meaning f)
+  made (Err e) = refuses (refusal_of e)
 
--- what reading a text answers
+-- what is answered for a text: the meaning of a file, else where and why it is none
 abbrev pub asked_file : {S : Type 0} → Read S → Outcome (Meaning S)
 asked_file (file m) = served m
 asked_file (refused line byte why) = refuses (refusal 20 line byte why)

@@ -4,4 +4,4 @@ pub mod Lexing
 pub mod Lines
 pub mod Means
 pub mod Files
-pub mod Questions
+pub mod Kinds

@@ -1,18 +1,20 @@
 // Reading bracket files.
 #![tactic(auto)]
 
+mod asking;
 pub mod bracket_file;
 mod file;
-pub mod layout;
+pub mod kind_name;
 mod lexer;
 mod line;
 mod lines;
+pub mod naming;
 mod number;
 mod reading;
-mod source;
 mod steps;
 mod tokens;
 mod words;
 
 pub use bracket_file::BracketFile;
-pub use layout::Layout;
+pub use kind_name::KindName;
+pub use naming::kind_of;

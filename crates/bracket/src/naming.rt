@@ -1,0 +1,40 @@
+// The kind that a text names, before it is read as a file of that kind.
+ghost use Rattle.std.specs.Prelude.{◌≡◌, None};
+ghost use Rattle.bracket.specs.Kinds.{kind_word, kind_reader, kind_named, Unread};
+ghost use Rattle.bracket.specs.Lexing.{Reads, worth_of};
+
+use crate::kind_name::KindName;
+use crate::lexer::{Lexer, Mark};
+use mojette::{Reason, TextFault};
+
+// The kind that has this name.
+fn kind_with(name: &[u8]) -> Result<KindName, Reason>
+    ensures { worth_of result ≡ kind_word name.now }
+{
+    match name {
+        b"sum" => Ok(KindName::Sum),
+        b"xor" => Ok(KindName::Xor),
+        b"pair" => Ok(KindName::Pair),
+        _ => Err(Reason::Token),
+    }
+}
+
+impl<'a> Lexer<'a> {
+    // The start of the first line of a file, up to the kind's name.
+    fn kind(&mut self) -> Result<KindName, TextFault>
+        ensures { Reads kind_reader self.old result self.new }
+    {
+        self.mark(Mark::Open)?;
+        self.word(b"tile")?;
+        self.mark(Mark::Space)?;
+        self.accept(kind_with)
+    }
+}
+
+// Which kind a text names where a file does. Where it names none, the reader of any of the three gives the same fault.
+pub fn kind_of(text: &[u8]) -> Option<KindName>
+    ensures named { result ≡ kind_named text.now }
+    ensures none { result ≡ None → Unread text.now }
+{
+    Lexer::new(text).kind().ok()
+}
