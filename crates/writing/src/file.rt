@@ -14,7 +14,6 @@ pub fn write_file<K: Coded, S: Source<Sample = K>>(
     source: &S,
     out: &mut [u8],
 ) -> Result<usize, Fault>
-    requires name { length K.Coded.name ≤ 255 }
     ensures { (outcome result, out.new) ≡ file_filling K.Kind K.Coded.own (S.meaning source.now) out.old }
 {
     let plan = plan_of(source)?;

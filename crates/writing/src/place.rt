@@ -123,7 +123,6 @@ fn place_len<K: Coded>(place: &Place) -> usize
 
 // How long the text of a source is, by its plan alone.
 pub(crate) fn file_len<K: Coded>(plan: &Plan) -> usize
-    requires name { length K.Coded.name ≤ 255 }
     ensures { IsFileLength K.Kind K.Coded.own plan.now result }
 {
     let mut len = head_len(b"tile", K::kind_name(), plan.size()) + 6;

@@ -1,0 +1,3 @@
+pub mod Tiles
+pub mod Answers
+pub mod Law

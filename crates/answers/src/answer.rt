@@ -1,0 +1,87 @@
+// The answer to a text: from bytes to bytes.
+ghost use Rattle.std.specs.Prelude.{◌≡◌, replicate};
+ghost use Rattle.mojette.specs.Faults.{outcome};
+ghost use Rattle.samples.specs.contracts.codes.PairSumWordXorWordCoded.TheImpl.{ghosts as pair_codes};
+ghost use Rattle.samples.specs.contracts.codes.SumWordCoded.TheImpl.{ghosts as sum_codes};
+ghost use Rattle.samples.specs.contracts.codes.XorWordCoded.TheImpl.{ghosts as xor_codes};
+ghost use Rattle.samples.specs.contracts.impls.SumWordKind.TheImpl.{ghosts as sum_operations};
+ghost use Rattle.samples.specs.contracts.impls.XorWordKind.TheImpl.{ghosts as xor_operations};
+ghost use Rattle.format.specs.Kinds.{pair_operations};
+ghost use Rattle.writing.specs.Splices.{filling};
+ghost use Rattle.answers.specs.Answers.{text_answer, program_answer};
+ghost use Rattle.answers.specs.Law.{Prints, Answers};
+ghost use Rattle.answers.specs.Tiles.{most_pixels, most_bins};
+
+use crate::show::{MOST_BINS, MOST_PIXELS, show};
+use bracket::{BracketFile, KindName, kind_of};
+use mojette::{Fault, Refusal};
+use samples::{Coded, Kind, Pair, SumWord, XorWord};
+use writing::listing::write_refusal;
+
+// The most bytes of an input.
+pub const MOST_BYTES: usize = 65_536;
+
+// What is printed of a text by the reader of one kind.
+fn answer_as<K: Coded>(
+    text: &[u8],
+    picture: &mut [K],
+    sums: &mut [K],
+    out: &mut [u8],
+) -> Result<usize, Fault>
+    requires picture { picture.old ≡ replicate most_pixels K.Kind.zero }
+    requires sums { sums.old ≡ replicate most_bins K.Kind.zero }
+    ensures text { (outcome result, out.new) ≡ filling (text_answer K.Kind K.Coded.own text.now) out.old }
+    ensures law { Prints K.Kind K.Coded.own text.now (text_answer K.Kind K.Coded.own text.now) }
+{
+    match BracketFile::<K>::read(text) {
+        Ok(file) => show(&file, picture, sums, out),
+        Err(fault) => write_refusal(out, Refusal::from(fault)),
+    }
+}
+
+// The same for sum words.
+fn answer_sums(text: &[u8], out: &mut [u8]) -> Result<usize, Fault>
+    ensures text { (outcome result, out.new) ≡ filling (text_answer sum_operations sum_codes text.now) out.old }
+    ensures law { Prints sum_operations sum_codes text.now (text_answer sum_operations sum_codes text.now) }
+{
+    let zero = SumWord::zero_sample();
+    let (mut picture, mut sums) = ([zero; MOST_PIXELS], [zero; MOST_BINS]);
+    answer_as(text, &mut picture, &mut sums, out)
+}
+
+// The same for XOR words.
+fn answer_xors(text: &[u8], out: &mut [u8]) -> Result<usize, Fault>
+    ensures text { (outcome result, out.new) ≡ filling (text_answer xor_operations xor_codes text.now) out.old }
+    ensures law { Prints xor_operations xor_codes text.now (text_answer xor_operations xor_codes text.now) }
+{
+    let zero = XorWord::zero_sample();
+    let (mut picture, mut sums) = ([zero; MOST_PIXELS], [zero; MOST_BINS]);
+    answer_as(text, &mut picture, &mut sums, out)
+}
+
+// The same for pairs.
+fn answer_pairs(text: &[u8], out: &mut [u8]) -> Result<usize, Fault>
+    ensures text { (outcome result, out.new) ≡ filling (text_answer pair_operations pair_codes text.now) out.old }
+    ensures law { Prints pair_operations pair_codes text.now (text_answer pair_operations pair_codes text.now) }
+{
+    let zero = Pair::<SumWord, XorWord>::zero_sample();
+    let (mut picture, mut sums) = ([zero; MOST_PIXELS], [zero; MOST_BINS]);
+    answer_as(text, &mut picture, &mut sums, out)
+}
+
+// Writes what the program prints for an input, of any content and length, and answers how many bytes that is. An output too short for it is refused.
+// Where a text names no kind, any reader tells why.
+pub fn answer(text: &[u8], out: &mut [u8]) -> Result<usize, Fault>
+    ensures text { (outcome result, out.new) ≡ filling (program_answer text.now) out.old }
+    ensures law { Answers text.now (program_answer text.now) }
+{
+    if text.len() > MOST_BYTES {
+        return write_refusal(out, Refusal::from(Fault::Oversize));
+    }
+    match kind_of(text) {
+        Some(KindName::Sum) => answer_sums(text, out),
+        Some(KindName::Xor) => answer_xors(text, out),
+        Some(KindName::Pair) => answer_pairs(text, out),
+        None => answer_sums(text, out),
+    }
+}

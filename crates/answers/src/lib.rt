@@ -1,0 +1,5 @@
+// The program's answer to an input.
+#![tactic(auto)]
+
+pub mod answer;
+mod show;

@@ -1,0 +1,85 @@
+// Rebuilding a tile, and listing it.
+ghost use Rattle.std.specs.Prelude.{◌≡◌, ◌≤◌, replicate};
+ghost use Rattle.mojette.specs.Faults.{outcome};
+ghost use Rattle.mojette.specs.Meaning.{Lawful, shape_of, bins_of};
+ghost use Rattle.plan.specs.Shapes.{shape};
+ghost use Rattle.writing.specs.Splices.{filling};
+ghost use Rattle.answers.specs.Answers.{listed, tile_answer};
+ghost use Rattle.answers.specs.Law.{Shows};
+ghost use Rattle.answers.specs.Tiles.{most_pixels, most_bins, answered};
+
+use mojette::{Fault, Refusal};
+use plan::Plan;
+use runs::rebuild::rebuild;
+use samples::Coded;
+use source::Source;
+use source::lawful::plan_of;
+use writing::listing::{write_ghost, write_picture, write_refusal};
+
+// The most pixels of a tile.
+pub(crate) const MOST_PIXELS: usize = 4_096;
+// The most bins that the program has room for.
+pub(crate) const MOST_BINS: usize = 8_192;
+
+// The listing of a tile that the program has room for, of its ghost, or of why it cannot be rebuilt. Picture and sums are lent, since
+// how many bytes a sample takes is known for each kind alone.
+fn list_tile<S: Source>(
+    source: &S,
+    mut plan: Plan,
+    picture: &mut [S::Sample],
+    sums: &mut [S::Sample],
+    out: &mut [u8],
+) -> Result<usize, Fault>
+where
+    S::Sample: Coded,
+    requires lawful { Lawful (shape_of (S.meaning source.now)) }
+    requires own { shape plan ≡ shape_of (S.meaning source.now) }
+    requires few { bins_of (shape_of (S.meaning source.now)) ≤ most_bins }
+    requires picture { picture.old ≡ replicate most_pixels S.Sample.Kind.zero }
+    requires sums { sums.old ≡ replicate most_bins S.Sample.Kind.zero }
+    ensures text { (outcome result, out.new) ≡ filling (listed S.Sample.Kind S.Sample.Coded.own (S.meaning source.now) (answered S.Sample.Kind (S.meaning source.now))) out.old }
+    ensures law { Shows S.Sample.Kind S.Sample.Coded.own (S.meaning source.now) (listed S.Sample.Kind S.Sample.Coded.own (S.meaning source.now) (answered S.Sample.Kind (S.meaning source.now))) }
+{
+    let (mut marks, mut counts, mut queue) = ([0; MOST_PIXELS], [0; MOST_BINS], [0; MOST_BINS]);
+    let answer = rebuild(
+        source,
+        &mut plan,
+        picture,
+        &mut marks,
+        sums,
+        &mut counts,
+        &mut queue,
+    );
+    let tile = &picture[..plan.pixels()];
+    match answer {
+        Ok(_) => write_picture(out, plan.size(), tile),
+        Err(fault) => match fault {
+            Fault::Ghost(..) => write_ghost(out, &plan, tile),
+            _ => write_refusal(out, Refusal::from(fault)),
+        },
+    }
+}
+
+// What is printed of a source.
+pub(crate) fn show<S: Source>(
+    source: &S,
+    picture: &mut [S::Sample],
+    sums: &mut [S::Sample],
+    out: &mut [u8],
+) -> Result<usize, Fault>
+where
+    S::Sample: Coded,
+    requires picture { picture.old ≡ replicate most_pixels S.Sample.Kind.zero }
+    requires sums { sums.old ≡ replicate most_bins S.Sample.Kind.zero }
+    ensures text { (outcome result, out.new) ≡ filling (tile_answer S.Sample.Kind S.Sample.Coded.own (S.meaning source.now)) out.old }
+    ensures law { Lawful (shape_of (S.meaning source.now)) → Shows S.Sample.Kind S.Sample.Coded.own (S.meaning source.now) (tile_answer S.Sample.Kind S.Sample.Coded.own (S.meaning source.now)) }
+{
+    let plan = match plan_of(source) {
+        Ok(plan) => plan,
+        Err(fault) => return write_refusal(out, Refusal::from(fault)),
+    };
+    if plan.total() > MOST_BINS {
+        return write_refusal(out, Refusal::from(Fault::Oversize));
+    }
+    list_tile(source, plan, picture, sums, out)
+}
