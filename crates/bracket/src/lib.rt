@@ -12,6 +12,8 @@ pub mod naming;
 mod number;
 mod reading;
 mod steps;
+#[cfg(test)]
+mod tests;
 mod tokens;
 mod words;
 
