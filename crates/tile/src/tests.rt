@@ -39,7 +39,7 @@ fn peel(
             // A refused take is the good end.
             Err(refused) => return Ok(refused.back),
             Ok((next, grant)) => {
-                *granted = grant.position;
+                *granted = grant.position();
                 let settled = next.settle(
                     grant,
                     plan,
