@@ -15,6 +15,8 @@ pub mod states;
 pub mod tables;
 #[cfg(test)]
 mod tests;
+#[cfg(test)]
+mod uses;
 
 pub use lent::Tables;
 pub use lives::calls_live;
