@@ -8,6 +8,8 @@ pub mod lives;
 pub mod load;
 pub mod opening;
 pub mod peel;
+#[cfg(test)]
+mod refusals;
 pub mod ring;
 pub mod seal;
 pub mod settle;
