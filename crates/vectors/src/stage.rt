@@ -8,7 +8,6 @@ use mojette::Fault;
 use plan::Plan;
 use samples::Coded;
 use source::Rack;
-use std::fmt;
 use std::fmt::Write;
 use tile::{Finished, Grant, Loading, Peeling, Refused, Tables, open};
 
