@@ -92,7 +92,7 @@ import mojette as m  # noqa: E402
 
 # The sets whose files are stored, and their folders from the root of the repository.
 STORED = [
-    ("crates/vectors", ["project", "ghost", "strip"]),
+    ("crates/vectors", ["project", "ghost", "strip", "schedule"]),
     ("crates/texts", ["format", "program"]),
 ]
 

@@ -1,7 +1,7 @@
-// Reading the state of a tile that is peeled.
+// Reading the state of a tile that is peeled, and a grant.
 ghost use Rattle.std.specs.Prelude.{◌≡◌};
 
-use crate::states::Peeling;
+use crate::states::{Grant, Peeling};
 
 impl Peeling {
     // How many pixels are missing.
@@ -30,5 +30,14 @@ impl Peeling {
         ensures { result ≡ self.now.state.settled }
     {
         self.state.settled
+    }
+}
+
+impl Grant {
+    // The position that is granted.
+    pub fn position(&self) -> u16
+        ensures { result ≡ self.now.position }
+    {
+        self.position
     }
 }

@@ -8,6 +8,8 @@ pub mod lives;
 pub mod load;
 pub mod opening;
 pub mod peel;
+#[cfg(test)]
+mod refusals;
 pub mod ring;
 pub mod seal;
 pub mod settle;
@@ -15,6 +17,8 @@ pub mod states;
 pub mod tables;
 #[cfg(test)]
 mod tests;
+#[cfg(test)]
+mod uses;
 
 pub use lent::Tables;
 pub use lives::calls_live;

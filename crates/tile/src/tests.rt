@@ -3,6 +3,7 @@ use crate::lent::Tables;
 use crate::opening::open;
 use crate::states::{Finished, Grant, Loading, Peeling, Refused};
 use mojette::{Fault, Record, Refusal};
+use peeling::State;
 use plan::Plan;
 use samples::SumWord;
 use source::Rack;
@@ -11,6 +12,20 @@ use std::test::Fail;
 
 fn word(value: u16) -> SumWord {
     SumWord { value }
+}
+
+impl Peeling {
+    // A tile of which so many pixels are missing, positions wait and grants are out.
+    pub(crate) fn with(left: u32, waiting: u32, out: u32) -> Peeling {
+        let state = State {
+            head: 0,
+            waiting,
+            out,
+            left,
+            settled: 0,
+        };
+        Peeling { state }
+    }
 }
 
 // Loads so many places.
@@ -39,7 +54,7 @@ fn peel(
             // A refused take is the good end.
             Err(refused) => return Ok(refused.back),
             Ok((next, grant)) => {
-                *granted = grant.position;
+                *granted = grant.position();
                 let settled = next.settle(
                     grant,
                     plan,

@@ -1,13 +1,16 @@
 // One case of each set. Each function takes the allocator, the words of its line and the output: one struct of the three would be taken apart in each.
-use crate::shows::{Failure, show_numbers};
+use crate::contents::Contents;
+use crate::schedule::schedule_case;
+use crate::shows::{Failure, show_fault, show_numbers};
+use crate::slots::Slots;
 use crate::words::Words;
-use mojette::{Fault, Record, Refusal};
+use mojette::Record;
 use plan::Plan;
 use plan::project::project;
 use samples::{Coded, Pair, SumWord, XorWord};
+use source::Source;
 use source::strip::strip;
-use source::{Rack, Source};
-use std::alloc::{AllocError, Global};
+use std::alloc::Global;
 use std::fmt::Write;
 
 fn project_case<K: Coded>(
@@ -34,33 +37,6 @@ fn ghost_case<K: Coded>(alloc: Global, words: &mut Words, out: &mut String) -> R
     let (c, r) = (criterion.columns, criterion.rows);
     write!(out, "{verdict} {c} {r}")?;
     show_numbers(out, picture.iter().map(|x| x.to_number()))
-}
-
-// What a rack is made from, by any two numbers.
-#[derive(Drop)]
-struct Contents<K> {
-    columns: usize,
-    rows: usize,
-    records: Vec<Record>,
-    run: Vec<K>,
-}
-
-impl<K: Coded> Contents<K> {
-    fn of(alloc: Global, words: &mut Words) -> Result<Contents<K>, AllocError> {
-        let (columns, rows) = words.sides();
-        let records = words.records(alloc)?;
-        let run = words.samples(alloc)?;
-        Ok(Contents {
-            columns,
-            rows,
-            records,
-            run,
-        })
-    }
-
-    fn rack(&self) -> Result<Rack<'_, K>, Fault> {
-        Rack::new(self.columns, self.rows, &self.records, &self.run)
-    }
 }
 
 fn strip_case(alloc: Global, words: &mut Words, out: &mut String) -> Result<(), Failure> {
@@ -103,11 +79,13 @@ fn case_of<K: Coded>(
     alloc: Global,
     set: &str,
     words: &mut Words,
+    slots: &mut Slots,
     out: &mut String,
 ) -> Result<(), Failure> {
     match set {
         "project" => project_case::<K>(alloc, words, out),
         "ghost" => ghost_case::<K>(alloc, words, out),
+        "schedule" => schedule_case::<K>(alloc, words, slots, out),
         _ => match words.word() {
             "0" | "" => strip_case(alloc, words, out),
             "1" => sizes_case::<K>(alloc, words, out),
@@ -118,20 +96,19 @@ fn case_of<K: Coded>(
 }
 
 // The answer to a line: a set, 0 for sum words, 1 for XOR words or 2 for pairs, and a case.
-pub fn answer(alloc: Global, line: &str) -> anyhow::Result<String> {
+pub fn answer(alloc: Global, line: &str, slots: &mut Slots) -> anyhow::Result<String> {
     let mut words = Words::of(line);
     let mut out = String::new(alloc);
     let set = words.word();
     let answered = match words.word() {
-        "0" | "" => case_of::<SumWord>(alloc, set, &mut words, &mut out),
-        "1" => case_of::<XorWord>(alloc, set, &mut words, &mut out),
-        _ => case_of::<Pair<SumWord, XorWord>>(alloc, set, &mut words, &mut out),
+        "0" | "" => case_of::<SumWord>(alloc, set, &mut words, slots, &mut out),
+        "1" => case_of::<XorWord>(alloc, set, &mut words, slots, &mut out),
+        _ => case_of::<Pair<SumWord, XorWord>>(alloc, set, &mut words, slots, &mut out),
     };
     match answered {
         Ok(()) => Ok(out),
         Err(Failure::Refused(fault)) => {
-            let refusal = Refusal::from(fault);
-            write!(out, "{refusal}")?;
+            show_fault(&mut out, fault)?;
             Ok(out)
         }
         Err(Failure::Broken(error)) => Err(error),

@@ -1,20 +1,32 @@
 // Runs the cases of the outside reference, one a line, and prints each answer.
 #![tactic(auto)]
 
+mod calls;
 mod cases;
+mod checksum;
+mod contents;
+mod schedule;
 mod shows;
+mod slots;
+mod stage;
+mod stores;
+mod two;
 mod words;
 
+use crate::slots::Slots;
 use std::io::{BufRead, BufReader};
 
-fn run(rt: &HostRuntime) -> anyhow::Result<()> {
+fn run(rt: &HostRuntime, slots: &mut Slots) -> anyhow::Result<()> {
     for line in BufReader::new(rt.alloc(), rt.stdin())?.lines(rt.alloc()) {
-        let answer = cases::answer(rt.alloc(), line?.as_str())?;
+        let answer = cases::answer(rt.alloc(), line?.as_str(), slots)?;
         rt.println(answer)?;
     }
     Ok(())
 }
 
 fn main(rt: HostRuntime) -> anyhow::Result<()> {
-    run(&rt)
+    let mut slots = Slots::empty();
+    let done = run(&rt, &mut slots);
+    slots.close(&rt);
+    done
 }

@@ -1,7 +1,7 @@
 // The words of an answer, and why there is none.
 ghost use Rattle.std.specs.Iterator.{IsFinite};
 
-use mojette::Fault;
+use mojette::{Fault, Refusal};
 use std::alloc::AllocError;
 use std::fmt;
 use std::fmt::Write;
@@ -14,6 +14,13 @@ pub enum Failure {
     Broken(anyhow::Error),
 }
 
+impl Failure {
+    // A case that the set does not have.
+    pub fn broken(why: &'static str) -> Failure {
+        Failure::Broken(anyhow::Error::msg(why))
+    }
+}
+
 impl From<Fault> for Failure {
     fn from(fault: Fault) -> Failure {
         Failure::Refused(fault)
@@ -23,6 +30,12 @@ impl From<Fault> for Failure {
 impl From<AllocError> for Failure {
     fn from(error: AllocError) -> Failure {
         Failure::Broken(anyhow::Error::from(error))
+    }
+}
+
+impl From<anyhow::Error> for Failure {
+    fn from(error: anyhow::Error) -> Failure {
+        Failure::Broken(error)
     }
 }
 
@@ -43,4 +56,10 @@ pub(crate) fn show_numbers<I: Iterator<Item = u64>>(
         write!(out, " {number}")?;
     }
     Ok(())
+}
+
+// A refusal in numbers.
+pub(crate) fn show_fault(out: &mut String, fault: Fault) -> Result<(), AllocError> {
+    let refusal = Refusal::from(fault);
+    write!(out, "{refusal}")
 }

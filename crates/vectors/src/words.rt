@@ -1,4 +1,5 @@
 // The words of a line, one after another.
+use crate::two::Side;
 use mojette::{Direction, Record};
 use samples::Coded;
 use std::alloc::{AllocError, Global};
@@ -34,6 +35,11 @@ impl<'a> Words<'a> {
         let columns = self.number();
         let rows = self.number();
         (columns, rows)
+    }
+
+    // A tile of a schedule, by its number.
+    pub fn side(&mut self) -> Side {
+        Side::of(self.number())
     }
 
     pub fn direction(&mut self) -> Direction {
