@@ -85,3 +85,70 @@ pub fn answer(text: &[u8], out: &mut [u8]) -> Result<usize, Fault>
         None => answer_sums(text, out),
     }
 }
+
+#[cfg(test)]
+mod tests {
+    use super::*;
+
+    // Inputs, and what is printed of each.
+    const CASES: [(&[u8], &[u8]); 9] = [
+        (
+            b"(tile sum 2 2)\n(dir 1 1 (bins 0002 0005 0003))\n(dir 0 1 (lost 4))\n(dir -1 1 (bins 0004 0005 0001))\n(end)\n",
+            b"(picture sum 2 2)\n(row 0001 0002)\n(row 0003 0004)\n(end)\n",
+        ),
+        (
+            b"(tile xor 1 1)\n(dir 0 1 (bins 0000ABCD))\n(end)\n",
+            b"(picture xor 1 1)\n(row 0000ABCD)\n(end)\n",
+        ),
+        (
+            b"(tile pair 1 2)\n(dir 1 0 (bins 000100000002 000300000004))\n(end)\n",
+            b"(picture pair 1 2)\n(row 000100000002)\n(row 000300000004)\n(end)\n",
+        ),
+        (
+            b"(tile sum 2 2)\n(dir 1 0 (bins 0003 0007))\n(dir 1 1 (lost 9))\n(dir 0 1 (bins 0006 0004))\n(end)\n",
+            b"(ghost sum 2 2)\n(lost 1 9)\n(row 0001 FFFF)\n(row FFFF 0001)\n(end)\n",
+        ),
+        (
+            b"(tile sum 1 1)\n(dir 0 1 (lost 255))\n(end)\n",
+            b"(ghost sum 1 1)\n(lost 0 255)\n(row 0001)\n(end)\n",
+        ),
+        (
+            b"(tile sum 2 2)\n(dir 1 1 (bins 0002 0005 0003))\n(dir -1 1 (bins 0004 0006 0001))\n(end)\n",
+            b"(refused 15 1 1 0)\n",
+        ),
+        (
+            b"(tile xor 1 1)\n(dir 0 1 (bins 0000abcd))\n(end)\n",
+            b"(refused 20 2 30 0)\n",
+        ),
+        (b"(tile words 1 1)\n", b"(refused 20 1 6 0)\n"),
+        (b"", b"(refused 20 1 0 0)\n"),
+    ];
+
+    // Whether this and no more is written.
+    fn prints(text: &[u8], listing: &[u8]) -> bool {
+        let mut out = [b'.'; 128];
+        let printed = answer(text, &mut out) == Ok(listing.len());
+        printed && out.starts_with(listing) && out.get(listing.len()) == Some(&b'.')
+    }
+
+    #[test]
+    fn listings_and_refusals(rt: HostRuntime) {
+        for (text, listing) in CASES {
+            assert!(rt; prints(text, listing));
+        }
+    }
+
+    #[test]
+    fn long_inputs_are_refused_first(rt: HostRuntime) {
+        let text = [b'('; MOST_BYTES + 1];
+        assert!(rt; prints(&text, b"(refused 22 0 0 0)\n"));
+        assert!(rt; prints(&text[1..], b"(refused 20 1 1 0)\n"));
+    }
+
+    #[test]
+    fn a_short_output_stays(rt: HostRuntime) {
+        let mut out = [b'.'; 17];
+        assert_eq!(rt; answer(b"", &mut out), Err(Fault::ShortOutput(19)));
+        assert!(rt; out == [b'.'; 17]);
+    }
+}
