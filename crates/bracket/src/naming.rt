@@ -1,6 +1,6 @@
 // The kind that a text names, before it is read as a file of that kind.
 ghost use Rattle.std.specs.Prelude.{◌≡◌, None};
-ghost use Rattle.bracket.specs.Kinds.{kind_word, kind_reader, kind_named, Unread};
+ghost use Rattle.bracket.specs.Kinds.{kind_word, kind_reader, kind_named, Named, Unread};
 ghost use Rattle.bracket.specs.Lexing.{Reads, worth_of};
 
 use crate::kind_name::KindName;
@@ -31,9 +31,10 @@ impl<'a> Lexer<'a> {
     }
 }
 
-// Which kind a text names where a file does. Where it names none, the reader of any of the three gives the same fault.
+// Which kind a text names. A file of a kind names it, and where none is named the readers of all three give the same fault.
 pub fn kind_of(text: &[u8]) -> Option<KindName>
     ensures named { result ≡ kind_named text.now }
+    ensures files { Named text.now result }
     ensures none { result ≡ None → Unread text.now }
 {
     Lexer::new(text).kind().ok()

@@ -1,7 +1,12 @@
-use Rattle.std.proofs.Common.{◌≡◌, sym, ◌∙◌, rules}
-use Rattle.bracket.specs.Kinds.{kind_named}
-use Rattle.bracket.proofs.OfKinds.{unread}
+use Rattle.std.proofs.Common.{◌≡◌, sym, subst, ◌∙◌, rules}
+use Rattle.bracket.specs.Kinds.{kind_named, Named}
+use Rattle.bracket.proofs.OfKinds.{named, unread}
 use Rattle.bracket.proofs.naming.kind_of.Goals as goal
+
+pub returns-clause-files : goal.returns-clause-files
+returns-clause-files c =
+    let same : c.ok.result ≡ kind_named c.args.text.now = search rules in
+    subst (Named c.args.text.now) (sym same) (named c.args.text.now)
 
 pub returns-clause-none : goal.returns-clause-none
 returns-clause-none c e =
