@@ -1,7 +1,8 @@
 """Makes the test vectors of the bench from fixed seeds.
 
     python3 reference/make.py write            from the root of the repository: writes every file
-                                               of the table STORED
+                                               of the table STORED, and beside each file
+                                               examples/NAME.tile what is printed of it, NAME.out
     python3 reference/make.py check            makes them again and compares them with the stored
                                                ones; exit status 1 on a difference
     python3 reference/make.py answer SET       answers the lines of standard input
@@ -79,6 +80,7 @@ schedule   KIND, two tiles, the number of calls, and the calls.  A tile is
 
 program    the bytes of an input, written as in format
            HEX                the bytes that the program prints
+           The first cases are the files examples/NAME.tile, by name.
 """
 
 import os
@@ -95,6 +97,9 @@ STORED = [
     ("crates/vectors", ["project", "ghost", "strip", "schedule"]),
     ("crates/texts", ["format", "program"]),
 ]
+
+ROOT = os.path.dirname(os.path.dirname(os.path.abspath(__file__)))
+EXAMPLES = "examples"
 
 FAR = 2**40
 DIRECTIONS = m.all_lawful_directions()
@@ -1146,8 +1151,19 @@ def large_plan(dice, kind_number, P, Q):
             return plan
 
 
+def examples():
+    """The name, without its ending, and the bytes of each example file."""
+    for file in sorted(os.listdir(os.path.join(ROOT, EXAMPLES))):
+        name, ending = os.path.splitext(file)
+        if ending == ".tile":
+            with open(os.path.join(ROOT, EXAMPLES, file), "rb") as stored:
+                yield name, stored.read()
+
+
 def program_inputs():
     dice = Dice(106)
+    for _, data in examples():
+        yield data
     yield b""
     yield EXAMPLE
     yield EXAMPLE.replace(b"0005", b"0006")
@@ -1238,6 +1254,8 @@ def stored_files():
     for folder, names in STORED:
         for file, content in made(names).items():
             yield os.path.join(folder, file), content
+    for name, data in examples():
+        yield os.path.join(EXAMPLES, name + ".out"), m.program(data)
 
 
 def command_write():
