@@ -10,7 +10,7 @@ use std::hint::black_box;
 use std::time::Instant;
 
 /// How many samples of each side are taken, in turns.
-const ROUNDS: usize = 400;
+const ROUNDS: usize = 200;
 
 /// The times of one side, in microseconds a call.
 struct Times(Vec<f64>);
