@@ -95,6 +95,17 @@ module _ (P Q : ℕ) (x : Place) (k l : ℕ) (h : k < P) (h' : l < Q) where
       let e = ap (λ (n : ℕ). (Q - 1) * n) (size_of x.leftward x.slope) in
       omega arith
 
+  -- Down the bins of a row: the bin that stands q below the number where column k begins.
+  module _ (n : ℕ) (e : n ≡ (P - k) * x.q + turned x.leftward Q l * x.slope) where
+    pub bin_below : n - x.q ≡ bin_number P Q x k l
+    bin_below =
+        let f : P - k ≡ suc (P - 1 - k) = omega arith in
+        let e' = e ∙ ap (λ m. m * x.q + turned x.leftward Q l * x.slope) f in
+        omega arith
+
+    pub below_inside : n - x.q < bins P Q (direction_of x)
+    below_inside = subst (λ m. m < bins P Q (direction_of x)) (sym bin_below) bin_inside
+
   -- The pixel lies in that bin, and in no other.
   pub lies_there : in_bin P Q (direction_of x) (l * P + k) (bin_number P Q x k l) ≡ true
   lies_there =

@@ -14,8 +14,8 @@ use crate::places::Place;
 use mojette::{Direction, Fault, Record, Size, Table};
 use samples::Kind;
 
-// Adds each sample of the picture to the sum of its bin, in the order of the cells. Column and row give the bin as well as the
-// cell, so that the loops count them. (Size and place, as for `lay`.)
+// Adds each sample of the picture to the sum of its bin, in the order of the cells. The bins of a row come q apart, the first column's last, so that
+// one number steps down them. (Size and place, as for `lay`.)
 fn add_up<K: Kind>(size: Size, place: Place, picture: &[K], sums: &mut [K])
     requires small { (place.slope ≤ 7) × (place.q ≤ 7) }
     requires room { (size.columns * size.rows ≤ length picture.now) × (bins size.columns size.rows (direction_of place) ≤ length sums.old) }
@@ -24,8 +24,9 @@ fn add_up<K: Kind>(size: Size, place: Place, picture: &[K], sums: &mut [K])
     ensures others { drop (bins size.columns size.rows (direction_of place)) sums.new ≡ drop (bins size.columns size.rows (direction_of place)) sums.old }
 {
     for l in 0..size.rows {
+        let mut bin = place.bin_of(size, 0, l) + place.q;
         for k in 0..size.columns {
-            let bin = place.bin_of(size, k, l);
+            bin -= place.q;
             let cell = cell_of(size, k, l);
             sums[bin] = sums[bin].add(picture[cell]);
         }

@@ -1,0 +1,51 @@
+// Rebuilding a tile from a rack.
+
+use crate::words::{MOST_BINS, MOST_PIXELS, ZERO, numbers_of, record_at, words_of};
+use mojette::{MOST_PLACES, Record};
+use plan::Plan;
+use runs::rebuild::rebuild;
+use source::Rack;
+
+// Rebuilds a tile from the sums of its places, one after another, so many times over, and writes its picture. Answers how many pixels it has.
+#[unsafe(no_mangle)]
+pub extern "C" fn exported_rebuild(
+    columns: usize,
+    rows: usize,
+    p: &[i32],
+    q: &[i32],
+    causes: &[u8],
+    sums: &[u16],
+    picture: &mut [u16],
+    marks: &mut [u8],
+    counts: &mut [u8],
+    queue: &mut [u16],
+    times: u32,
+) -> usize {
+    let mut records = [Record::new(0, 0, 0); MOST_PLACES];
+    for (i, entry) in records.iter_mut().enumerate() {
+        *entry = record_at(p, q, causes, i);
+    }
+    let mut run = [ZERO; MOST_BINS];
+    words_of(sums, &mut run);
+    let records = &records[..p.len().min(MOST_PLACES)];
+    let run = &run[..sums.len().min(MOST_BINS)];
+    let mut cells = [ZERO; MOST_PIXELS];
+    let mut lent = [ZERO; MOST_BINS];
+    let mut pixels = 0;
+    for _ in 0..times {
+        let Ok(rack) = Rack::new(columns, rows, records, run) else {
+            return 0;
+        };
+        let mut plan = Plan::fresh();
+        if rebuild(
+            &rack, &mut plan, &mut cells, marks, &mut lent, counts, queue,
+        )
+        .is_err()
+        {
+            return 0;
+        }
+        pixels = plan.pixels();
+    }
+    numbers_of(&cells, picture);
+    pixels
+}
