@@ -1,8 +1,9 @@
 // A file as a source: it is read, and then asked.
-ghost use Rattle.std.specs.Prelude.{◌≡◌, ◌^◌, ◌<◌, slice_get};
+ghost use Rattle.std.specs.Prelude.{◌≡◌, ◌^◌, ◌<◌, slice_get, IfOk};
 ghost use Rattle.std.specs.Option.{ok_or};
 ghost use Rattle.mojette.specs.declared.fault.Fault.TheVariants.{NoPlace};
 ghost use Rattle.format.specs.Format.{file, read_file};
+ghost use Rattle.format.specs.Laws.{OneText};
 ghost use Rattle.bracket.specs.Files.{file_meaning, made, asked_file};
 ghost use Rattle.bracket.specs.Found.{found_at};
 ghost use Rattle.bracket.specs.Lines.{held_lines};
@@ -10,6 +11,7 @@ ghost use Rattle.bracket.specs.Lines.{held_lines};
 use crate::bracket_file::BracketFile;
 use crate::file::lines_of;
 use crate::line::{Held, Line};
+use format::one_text;
 use mojette::{Fault, Record};
 use samples::Coded;
 use samples::codes::read_code;
@@ -27,10 +29,13 @@ fn found<K: Coded>(text: &[u8], byte: usize) -> K
 }
 
 impl<'a, K: Coded> BracketFile<'a, K> {
-    // Reads a text of any content and length as a file of a kind of sample.
+    // Reads a text of any content and length as a file of a kind of sample. A lawful meaning has one such text, and all other text is refused.
     pub fn read(text: &'a [u8]) -> Result<BracketFile<'a, K>, Fault>
-        ensures { made result ≡ asked_file (read_file K.Coded.own text.now) }
+        ensures read { made result ≡ asked_file (read_file K.Coded.own text.now) }
+        ensures text { IfOk result (λ f. f.text.now ≡ text.now) }
+        ensures law { OneText K.Kind K.Coded.own }
     {
+        one_text::<K>();
         let (size, lines) = lines_of::<K>(text)?;
         Ok(BracketFile {
             text,

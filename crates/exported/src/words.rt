@@ -3,7 +3,7 @@
 use mojette::{Direction, MOST_PLACES, MOST_SIDE, MOST_STEP, Record};
 use samples::SumWord;
 
-// The most pixels of a tile, and the most bins of a plan.
+// The most pixels of a tile, and room for the bins of any plan.
 pub(crate) const MOST_PIXELS: usize = MOST_SIDE * MOST_SIDE;
 
 pub(crate) const MOST_BINS: usize = MOST_PLACES * (2 * (MOST_SIDE - 1) * (MOST_STEP as usize) + 1);

@@ -3,3 +3,5 @@
 
 pub mod rebuild;
 mod steps;
+#[cfg(test)]
+mod tests;

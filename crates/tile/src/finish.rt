@@ -74,9 +74,9 @@ impl Peeling {
 }
 
 impl Finished {
-    // The tile's own cells of the picture, as a part of the table.
-    pub fn picture<'a, K: Kind>(&self, cells: &'a mut [K]) -> Result<&'a [K], Fault>
-        ensures { picture_outcome result ≡ pictured self.now.cells cells.old }
+    // The tile's own cells of the picture, as a part of the caller's table, which is only read.
+    pub fn picture<'a, K: Kind>(&self, cells: &'a [K]) -> Result<&'a [K], Fault>
+        ensures { picture_outcome result ≡ pictured self.now.cells cells.now }
     {
         cells
             .get(..self.cells)

@@ -225,6 +225,6 @@ fn a_finish_is_refused(rt: HostRuntime) -> Result<(), Fail> {
 fn a_picture_is_refused(rt: HostRuntime) {
     let tile = Finished { cells: 4 };
     let mut picture = [ZERO; 5];
-    assert_eq!(rt; told(tile.picture(&mut picture[..3])), (5, 1, 0));
-    assert_eq!(rt; told(tile.picture(&mut picture)), SERVED);
+    assert_eq!(rt; told(tile.picture(&picture[..3])), (5, 1, 0));
+    assert_eq!(rt; told(tile.picture(&picture)), SERVED);
 }

@@ -1,0 +1,71 @@
+// Rebuilding tiles of 2 by 2 in sum words.
+use crate::rebuild::rebuild;
+use mojette::{Record, Refusal};
+use plan::Plan;
+use samples::SumWord;
+use source::Rack;
+
+// Number, first and second value of the refusal, or zeros, and the picture, which began with sevens.
+type Told = ((usize, usize, usize), [u16; 5]);
+
+// Rebuilds from records and sums on tables of so many positions.
+fn rebuilt(records: &[Record], sums: &[u16], positions: usize) -> Option<Told> {
+    let mut run = [SumWord { value: 0 }; 8];
+    for (i, value) in sums.iter().enumerate() {
+        *run.get_mut(i)? = SumWord { value: *value };
+    }
+    let rack = Rack::new(2, 2, records, run.get(..sums.len())?).ok()?;
+    let mut plan = Plan::fresh();
+    let mut picture = [SumWord { value: 7 }; 5];
+    let mut marks = [9; 4];
+    let mut lent = [SumWord { value: 7 }; 8];
+    let (mut counts, mut queue) = ([9; 8], [9; 8]);
+    let answer = rebuild(
+        &rack,
+        &mut plan,
+        &mut picture,
+        &mut marks,
+        &mut lent,
+        &mut counts,
+        queue.get_mut(..positions)?,
+    );
+    let told = match answer {
+        Ok(_) => (0, 0, 0),
+        Err(fault) => {
+            let refusal = Refusal::from(fault);
+            (refusal.number, refusal.first, refusal.second)
+        }
+    };
+    Some((told, picture.map(|sample| sample.value)))
+}
+
+#[test]
+fn a_picture_without_a_recorder(rt: HostRuntime) {
+    let records = [
+        Record::new(1, 1, 0),
+        Record::new(0, 1, 4),
+        Record::new(-1, 1, 0),
+    ];
+    let sums = [2, 5, 3, 0, 0, 4, 5, 1];
+    assert_eq!(rt;
+        rebuilt(&records, &sums, 8),
+        Some(((0, 0, 0), [1, 2, 3, 4, 7]))
+    );
+    // the queue is too short, and nothing is written
+    assert_eq!(rt;
+        rebuilt(&records, &sums, 7),
+        Some(((5, 5, 0), [7, 7, 7, 7, 7]))
+    );
+}
+
+#[test]
+fn a_ghost_and_a_contradiction(rt: HostRuntime) {
+    let records = [Record::new(1, 0, 0), Record::new(0, 1, 0)];
+    assert_eq!(rt;
+        rebuilt(&records, &[3, 7, 6, 4], 8),
+        Some(((9, 1, 1), [1, 0xffff, 0xffff, 1, 7]))
+    );
+    // one sum is told as 6, and was 5
+    let records = [Record::new(1, 1, 0), Record::new(-1, 1, 0)];
+    assert!(rt; rebuilt(&records, &[2, 5, 3, 4, 6, 1], 8).is_some_and(|told| told.0 == (15, 1, 1)));
+}
