@@ -10,7 +10,7 @@ use std::hint::black_box;
 use std::time::Instant;
 
 /// How many samples of each side are taken, in turns.
-const ROUNDS: usize = 200;
+const ROUNDS: usize = 300;
 
 /// The times of one side, in microseconds a call.
 struct Times(Vec<f64>);
@@ -34,13 +34,19 @@ impl Times {
     }
 }
 
-/// Times both sides in turns, and prints a line of the table.
+/// Times both sides in turns, and prints a line of the table; nothing where the program's argument is no part of the name.
 fn compare(
     name: &str,
     calls: u32,
     mut proved: impl FnMut() -> usize,
     mut plain: impl FnMut() -> usize,
 ) {
+    if std::env::args()
+        .nth(1)
+        .is_some_and(|part| !name.contains(&part))
+    {
+        return;
+    }
     let (mut of_proved, mut of_plain) = (Times::new(), Times::new());
     for _ in 0..ROUNDS {
         of_proved.add(calls, &mut proved);
@@ -55,20 +61,20 @@ fn compare(
     );
 }
 
-fn projecting() {
+fn projecting(name: &str, plain: fn(&Tile, &mut [u16], u32) -> usize) {
     const TIMES: u32 = 8;
     let tile = Tile::of(64, 64, PLACES);
     let mut sums = vec![0; tile.sums.len()];
     let mut others = sums.clone();
     assert_eq!(proved::project(&tile, &mut sums, 1), tile.sums.len());
-    assert_eq!(unproved::project(&tile, &mut others, 1), tile.sums.len());
+    assert_eq!(plain(&tile, &mut others, 1), tile.sums.len());
     assert_eq!(sums, tile.sums);
     assert_eq!(others, tile.sums);
     compare(
-        "project, 64 by 64, 16 directions",
+        name,
         TIMES,
         || proved::project(black_box(&tile), black_box(&mut sums), TIMES),
-        || unproved::project(black_box(&tile), black_box(&mut others), TIMES),
+        || plain(black_box(&tile), black_box(&mut others), TIMES),
     );
 }
 
@@ -119,10 +125,17 @@ fn reading() {
 
 fn main() {
     println!(
-        "| case | proved, best | proved, median | plain, best | plain, median | plain / proved, best | median |"
+        "| microseconds a call | proved, best | median | plain, best | median | plain by proved, best | median |"
     );
     println!("|---|---|---|---|---|---|---|");
-    projecting();
+    projecting(
+        "project, 16 directions; plain by indexes",
+        unproved::project,
+    );
+    projecting(
+        "project, 16 directions; plain by rows",
+        unproved::project_rows,
+    );
     for whole in [16, 12, 10] {
         rebuilding(64, whole);
     }

@@ -1,8 +1,9 @@
 //! The same four calls over the plain code, with the same copies in and out, and no inlining into what times them.
 
 use crate::case::{Lent, Tile};
+use crate::plain;
 use crate::plain::bracket::BracketFile;
-use crate::plain::direction::{Direction, Record};
+use crate::plain::direction::{Direction, Fault, Record};
 use crate::plain::kind::SumWord;
 use crate::plain::plan::Plan;
 use crate::plain::source::{Rack, Source};
@@ -26,18 +27,16 @@ fn numbers_of(words: &[SumWord], numbers: &mut [u16]) {
     }
 }
 
-#[inline(never)]
-fn project_all(tile: &Tile, cells: &[SumWord], run: &mut [SumWord]) -> usize {
+fn project_all(
+    tile: &Tile,
+    cells: &[SumWord],
+    run: &mut [SumWord],
+    project: impl Fn(usize, usize, Direction, &[SumWord], &mut [SumWord]) -> Result<usize, Fault>,
+) -> usize {
     let mut from = 0;
     for (&p, &q) in tile.p.iter().zip(&tile.q) {
         let direction = Direction { p, q };
-        match crate::plain::project::project(
-            tile.columns,
-            tile.rows,
-            direction,
-            cells,
-            &mut run[from..],
-        ) {
+        match project(tile.columns, tile.rows, direction, cells, &mut run[from..]) {
             Ok(bins) => from += bins,
             Err(_) => return 0,
         }
@@ -45,17 +44,31 @@ fn project_all(tile: &Tile, cells: &[SumWord], run: &mut [SumWord]) -> usize {
     from
 }
 
-#[inline(never)]
-pub fn project(tile: &Tile, sums: &mut [u16], times: u32) -> usize {
+fn project_times(
+    tile: &Tile,
+    sums: &mut [u16],
+    times: u32,
+    project: impl Fn(usize, usize, Direction, &[SumWord], &mut [SumWord]) -> Result<usize, Fault>,
+) -> usize {
     let mut cells = [ZERO; MOST_PIXELS];
     words_of(&tile.picture, &mut cells);
     let mut run = [ZERO; MOST_BINS];
     let mut bins = 0;
     for _ in 0..times {
-        bins = project_all(tile, &cells, &mut run);
+        bins = project_all(tile, &cells, &mut run, &project);
     }
     numbers_of(&run, sums);
     bins
+}
+
+#[inline(never)]
+pub fn project(tile: &Tile, sums: &mut [u16], times: u32) -> usize {
+    project_times(tile, sums, times, plain::project::project)
+}
+
+#[inline(never)]
+pub fn project_rows(tile: &Tile, sums: &mut [u16], times: u32) -> usize {
+    project_times(tile, sums, times, plain::project::project_rows)
 }
 
 #[inline(never)]
@@ -87,7 +100,7 @@ pub fn rebuild(tile: &Tile, lent: &mut Lent, times: u32) -> usize {
             counts: &mut lent.counts,
             queue: &mut lent.queue,
         };
-        match crate::plain::tile::rebuild(&rack, &mut plan, &mut tables) {
+        match plain::tile::rebuild(&rack, &mut plan, &mut tables) {
             Ok(finished) => pixels = finished.picture(&cells).map_or(0, |own| own.len()),
             Err(_) => return 0,
         }
