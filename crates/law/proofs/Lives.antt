@@ -21,12 +21,13 @@ use Rattle.peeling.proofs.Outcome.{run_kept, peeling_law}
 use Rattle.law.specs.Positions.{incidence}
 use Rattle.law.specs.Steps.{Stage, loading, peeling, finished, Tables, done, refused, Outcome, peels_on, world_of, blank, short_queue, criterion, C, R, ghosted, with_ghost, load, seal, take_outcome, take, finds, settle, give_back, finish_outcome, finish}
 use Rattle.law.specs.Steps.{settled as settled_with}
-use Rattle.law.specs.Life.{Call, loads, seals, settles, finishes, event, History, loaded_places, since_seal, LongEnough, Does, load_does, seal_does, take_does, settle_does, give_back_does, finish_does, HasGrant, Life, born, then, then_refused}
+use Rattle.law.specs.Life.{Call, loads, seals, settles, finishes, event, History, loaded_places, since_seal, LongEnough, with_picture, Does, load_does, seal_does, take_does, settle_does, give_back_does, finish_does, HasGrant, Life, born, then, then_refused, then_ghosted}
 use Rattle.law.specs.Life.{takes as take_call, gives_back as give_back_call}
 use Rattle.law.specs.Law.{WhenFinished}
 use Rattle.law.proofs.Agreement.{source, agrees_by_position, agrees_by_place}
 use Rattle.law.proofs.Alone.{one_missing}
 use Rattle.law.proofs.Loading.{Loaded, all_loaded, one_more, length-with_place, with_next, sums_fit, load_all, load_next}
+use Rattle.law.proofs.Refusing.{refusals_keep}
 use Rattle.law.proofs.Sealing.{none_short, criterion_holds, seal_early, seal_ghost, seal_accepted}
 use Rattle.law.proofs.Sizes.{positions_few}
 use Rattle.law.proofs.Vanishing.{ds, whole_laws}
@@ -260,8 +261,36 @@ module _ {S : Type 0} (K : Operations S) (m : Meaning S) where
   refusal_keeps h t r shape m' k (give_back_does {b} {s}) = refused_keeps h s t k (give_back_call b) r refl
   refusal_keeps h t r shape m' k (finish_does {s}) = refused_keeps h s t k finishes r refl
 
+  -- a seal that was passed the tile's picture, and was refused: a ghost fills cells, and adds none
+  length-ghosted : (shape : Shape) (n : ℕ) (t : Tables S) (r : Refusal) → (seal K shape n t).answer ≡ refused r →
+      length (seal K shape n t).tables.picture ≡ length t.picture
+  unfolding ghosted
+  length-ghosted shape n t r e = ⊎_elim
+      (λ (same : (seal K shape n t).tables ≡ t). ap (λ x. length x.picture) same)
+      (λ (ghost : (r ≡ refusal 9 (C shape) (R shape) 0) × ((seal K shape n t).tables ≡ with_ghost K shape t)).
+      ap (λ x. length x.picture) ghost.1 ∙ length-filled (pixels_of shape) _ t.picture)
+      (refusals_keep K shape m seals (loading n) t _ seal_does r e).1
+
+  ghost_keeps : (h : History) (n : ℕ) (t : Tables S) (r : Refusal) (shape : Shape) (t' : Tables S) → WhileLoading h n t → t'.picture ≡ t.picture →
+      (seal K shape n t').answer ≡ refused r → WhileLoading (event seals (refused r) ∷ h) n (with_picture (seal K shape n t').tables.picture t)
+  unfolding loaded_places
+  ghost_keeps h n t r shape t' k own e = let c = k.count in record {
+    lawful = k.lawful;
+    count = omega arith;
+    few = k.few;
+    long = record {
+      picture = subst (λ x. pixels_of (shape_of m) ≤ x) (sym (length-ghosted shape n t' r e ∙ ap (λ x. length x) own)) k.long.picture;
+      marks = k.long.marks;
+      sums = k.long.sums;
+      counts = k.long.counts;
+      queue = k.long.queue;
+    };
+    sums = k.sums;
+  }
+
   pub kept : {h : History} {stage : Stage} {t : Tables S} → Life K m h stage t → Kept h stage t
   unfolding loaded_places
   kept (born lawful long) = record { lawful = lawful; count = refl; few = omega arith; long = long; sums = λ x l. absurd (omega arith) }
   kept (then {h} life does grant) = step_keeps h (kept life) does grant
   kept (then_refused {h} {stage} {t} {c} {o} {r} shape m' t' life does e) = refusal_keeps h t r shape m' (kept life) does
+  kept (then_ghosted {h} {n} {t} {r} shape t' life own e) = ghost_keeps h n t r shape t' (kept life) own e

@@ -97,12 +97,20 @@ HasGrant h finishes = Unit {0}
 HasGrant h (settles b) = 0 < out (since_seal h) b
 HasGrant h (gives_back b) = 0 < out (since_seal h) b
 
+-- other cells in the picture
+abbrev pub with_picture : {S : Type 0} → List S → Tables S → Tables S
+with_picture picture t = record { picture = picture; marks = t.marks; sums = t.sums; counts = t.counts; queue = t.queue }
+
 -- Life h stage t: a tile born of a source that means m has met the calls h, and nothing else, and is now in this stage
 -- with these tables. Its birth is a served open, whatever the tables held. Each call has the tile's own plan, source,
--- tables and grants, and does its step. A call that was passed anything else, and was refused, changes nothing of the tile.
+-- tables and grants, and does its step. A call that was passed anything else, and was refused, changes nothing of the tile;
+-- but a seal that was passed the tile's picture, and was refused, leaves there what it wrote: nothing, or the ghost of the
+-- plan that it was passed.
 pub data Life {S : Type 0} (K : Operations S) (m : Meaning S) : History → Stage → Tables S → Type 0 where
   born : {t : Tables S} → Lawful (shape_of m) → LongEnough (shape_of m) t → Life K m (event opens done ∷ []) (loading 0) t
   then : {h : History} {stage : Stage} {t : Tables S} {c : Call} {o : Outcome S} → Life K m h stage t →
       Does K (shape_of m) m c stage t o → HasGrant h c → Life K m (event c o.answer ∷ h) o.stage o.tables
   then_refused : {h : History} {stage : Stage} {t : Tables S} {c : Call} {o : Outcome S} {r : Refusal} (shape : Shape) (m' : Meaning S) (t' : Tables S) →
       Life K m h stage t → Does K shape m' c stage t' o → o.answer ≡ refused r → Life K m (event c (refused r) ∷ h) stage t
+  then_ghosted : {h : History} {n : ℕ} {t : Tables S} {r : Refusal} (shape : Shape) (t' : Tables S) → Life K m h (loading n) t → t'.picture ≡ t.picture →
+      (seal K shape n t').answer ≡ refused r → Life K m (event seals (refused r) ∷ h) (loading n) (with_picture (seal K shape n t').tables.picture t)

@@ -1,20 +1,21 @@
 -- From a life before a call to the life after it.
-use Rattle.std.proofs.Common.{◌≡◌, ℕ, List, [], ◌∷◌, Ok, Err, Result, sym, refl, ap, ◌∙◌, subst, subst₂}
+use Rattle.std.proofs.Common.{◌≡◌, ℕ, ◌⊎◌, List, [], ◌∷◌, Ok, Err, Result, sym, refl, ap, ◌∙◌, subst, subst₂, ⊎_elim}
 use Rattle.samples.specs.declared.kind.Kind.{Ghosts as Operations}
 use Rattle.samples.specs.Kinds.{sum_words}
 use Rattle.mojette.specs.Faults.{refusal_of}
 use Rattle.mojette.specs.Meaning.{Shape, Meaning, shape_of}
+use Rattle.mojette.specs.Refusals.{refusal}
 use Rattle.plan.specs.declared.plan.Plan.{Plan}
 use Rattle.plan.specs.Shapes.{shape}
-use Rattle.law.specs.Steps.{Stage, Tables, done, granted, refused, Outcome, peeling, loading}
-use Rattle.law.specs.Life.{Call, event, LongEnough, Does, load_does, seal_does, take_does, settle_does, give_back_does, finish_does, Life, born, then, then_refused}
+use Rattle.law.specs.Steps.{Stage, Tables, done, granted, refused, Outcome, peeling, loading, C, R, with_ghost, seal}
+use Rattle.law.specs.Life.{Call, History, event, LongEnough, with_picture, Does, load_does, seal_does, take_does, settle_does, give_back_does, finish_does, Life, born, then, then_refused, then_ghosted}
 use Rattle.law.specs.Life as calls
 use Rattle.law.proofs.Refusing.{refusals_keep}
 use Rattle.tile.specs.declared.states.Grant.{Grant}
 use Rattle.tile.specs.declared.states.Loading.{Loading}
 use Rattle.tile.specs.declared.states.Peeling.{Peeling}
 use Rattle.tile.specs.declared.states.Refused.{Refused}
-use Rattle.tile.specs.Calls.{Opens, Takes, GivesBack}
+use Rattle.tile.specs.Calls.{Opens, Seals, Takes, GivesBack}
 use Rattle.tile.specs.Lives.{Lives, CallsLive}
 use Rattle.tile.specs.Outcomes.{tables, take_outcome, give_back_outcome}
 use Rattle.tile.proofs.Rings.{Ring, ring, with_ring, ring_taken, ring_given_back, take_is, give_back_is}
@@ -89,6 +90,33 @@ module _ {S : Type 0} (K : Operations S) where
   lives {c} {stage} {t} {o} s does =
       goes_on (λ m. s ≡ shape_of m) s (record { P = 0; Q = 0; places = [] }) (does _) (λ m own. subst (λ z. Does K z m c stage t o) own (does m))
 
+  -- a refused seal that was passed the tile's picture
+  module _ (plan : Plan) (x : Loading) (t : Tables S) (e : Refused Loading) (t' : Tables S) (does : Seals K plan x t (Err e) t') (m : Meaning S) (h : History) where
+    answer : (seal K (shape plan) x.loaded t).answer ≡ refused (refusal_of e.fault)
+    answer = ap (λ o. o.answer) (sym does)
+
+    leaves : (loading e.back.loaded ≡ loading x.loaded) ×
+        ((t' ≡ t) ⊎ ((refusal_of e.fault ≡ refusal 9 (C (shape plan)) (R (shape plan)) 0) × (t' ≡ with_ghost K (shape plan) t)))
+    leaves = refusals_keep K (shape plan) m calls.seals (loading x.loaded) t _
+        (subst (Does K (shape plan) m calls.seals (loading x.loaded) t) (sym does) seal_does) (refusal_of e.fault) refl
+
+    picture_ghosted : (own : Tables S) → t.picture ≡ own.picture → Life K m h (loading x.loaded) own →
+        Life K m (event calls.seals (refused (refusal_of e.fault)) ∷ h) (loading e.back.loaded) (with_picture t'.picture own)
+    picture_ghosted own same life =
+        subst₂ (λ stage p. Life K m (event calls.seals (refused (refusal_of e.fault)) ∷ h) stage (with_picture p own))
+        (sym leaves.0) (ap (λ o. o.tables.picture) (sym does)) (then_ghosted (shape plan) t life same answer)
+
+    -- of the tables it changes the picture alone
+    rest : with_picture t'.picture t ≡ t'
+    rest = ⊎_elim
+        (λ (none : t' ≡ t). ap (λ y. with_picture y.picture t) none ∙ sym none)
+        (λ (ghost : (refusal_of e.fault ≡ refusal 9 (C (shape plan)) (R (shape plan)) 0) × (t' ≡ with_ghost K (shape plan) t)).
+        ap (λ y. with_picture y.picture t) ghost.1 ∙ sym ghost.1)
+        leaves.1
+
+    seals_refused : Life K m h (loading x.loaded) t → Life K m (event calls.seals (refused (refusal_of e.fault)) ∷ h) (loading e.back.loaded) t'
+    seals_refused life = subst (Life K m (event calls.seals (refused (refusal_of e.fault)) ∷ h) (loading e.back.loaded)) rest (picture_ghosted t refl life)
+
   opened : (m : Meaning S) (plan : Plan) (x : Loading) (plan' : Plan) → Opens m plan (Ok x) plan' →
       (t : Tables S) → LongEnough (shape_of m) t → Life K m (event calls.opens done ∷ []) (loading x.loaded) t
   opened m plan x plan' e t long = subst (λ n. Life K m (event calls.opens done ∷ []) (loading n) t) (sym e.2) (born e.0 long)
@@ -100,6 +128,8 @@ module _ {S : Type 0} (K : Operations S) where
         with_source (shape plan) s
         (subst (Does K (shape plan) s calls.loads (loading x.loaded) (tables picture marks sums counts queue)) (sym (e picture marks counts queue)) load_does);
     seals = λ plan x t r t' e. lives (shape plan) (λ m. subst (Does K (shape plan) m calls.seals (loading x.loaded) t) (sym e) seal_does);
+    seals_refused = λ plan x t e t' does m h. seals_refused plan x t e t' does m h;
+    picture_ghosted = λ plan x t e t' does m h. picture_ghosted plan x t e t' does m h;
     settles = λ plan x grant t r t' e. lives (shape plan) (λ m. subst (Does K (shape plan) m (calls.settles grant.position) (peeling x.state) t) (sym e) settle_does);
     finishes = λ plan x sums r e picture marks counts queue.
         lives (shape plan) (λ m. subst (Does K (shape plan) m calls.finishes (peeling x.state) (tables picture marks sums counts queue)) (sym (e picture marks counts queue)) finish_does);

@@ -1,13 +1,14 @@
 -- The law speaks of what the calls leave: from a tile's life before a call to its life after it.
-use Rattle.std.specs.Prelude.{◌≡◌, ℕ, List, [], ◌∷◌, Ok, Option, Result}
+use Rattle.std.specs.Prelude.{◌≡◌, ℕ, List, [], ◌∷◌, Ok, Err, Option, Result}
 use Rattle.samples.specs.declared.kind.Kind.{Ghosts as Operations}
 use Rattle.samples.specs.Kinds.{sum_words}
+use Rattle.mojette.specs.Faults.{refusal_of}
 use Rattle.mojette.specs.Meaning.{Meaning, shape_of}
 use Rattle.mojette.specs.Refusals.{Refusal}
 use Rattle.plan.specs.declared.plan.Plan.{Plan}
 use Rattle.plan.specs.Shapes.{shape}
 use Rattle.law.specs.Steps.{Stage, loading, peeling, Tables, done, refused, Outcome}
-use Rattle.law.specs.Life.{Call, History, event, LongEnough, HasGrant, Life}
+use Rattle.law.specs.Life.{Call, History, event, LongEnough, HasGrant, with_picture, Life}
 use Rattle.law.specs.Life as calls
 use Rattle.tile.specs.declared.states.Finished.{Finished}
 use Rattle.tile.specs.declared.states.Grant.{Grant}
@@ -21,7 +22,7 @@ use Rattle.tile.specs.Outcomes.{tables, load_outcome, seal_outcome, take_outcome
 pub record Lives {S : Type 0} (K : Operations S) (Own : Meaning S → Type 0) (c : Call) (stage : Stage) (t : Tables S) (o : Outcome S) : Type 0 where
   -- Where all that it was passed is the tile's own, the tile's life goes on with this call, in what it left.
   pub own : (m : Meaning S) (h : History) → Own m → Life K m h stage t → HasGrant h c → Life K m (event c o.answer ∷ h) o.stage o.tables
-  -- Whatever it was passed, if it was refused, the life goes on with this call, and the tile's tables as they were.
+  -- Whatever it was passed, if it was refused and the tile's tables are as they were, the life goes on with this call, and with them.
   pub other : (m : Meaning S) (h : History) (t' : Tables S) (r : Refusal) → o.answer ≡ refused r → Life K m h stage t' → Life K m (event c (refused r) ∷ h) o.stage t'
 
 -- What the contract of each call says of it makes it a call of the tile's life.
@@ -34,6 +35,14 @@ pub record CallsLive {S : Type 0} (K : Operations S) : Type 0 where
       (load_outcome r (tables picture marks sums' counts queue))
   pub seals : (plan : Plan) (x : Loading) (t : Tables S) (r : Result Peeling (Refused Loading)) (t' : Tables S) → Seals K plan x t r t' →
       Lives K (λ m. shape plan ≡ shape_of m) calls.seals (loading x.loaded) t (seal_outcome r t')
+  -- A refused seal that was passed the tile's own tables, with whatever plan: the life goes on in what it left.
+  pub seals_refused : (plan : Plan) (x : Loading) (t : Tables S) (e : Refused Loading) (t' : Tables S) → Seals K plan x t (Err e) t' →
+      (m : Meaning S) (h : History) → Life K m h (loading x.loaded) t →
+      Life K m (event calls.seals (refused (refusal_of e.fault)) ∷ h) (loading e.back.loaded) t'
+  -- The same where only the picture was the tile's own: what was left in the picture is in the tile's.
+  pub picture_ghosted : (plan : Plan) (x : Loading) (t : Tables S) (e : Refused Loading) (t' : Tables S) → Seals K plan x t (Err e) t' →
+      (m : Meaning S) (h : History) (own : Tables S) → t.picture ≡ own.picture → Life K m h (loading x.loaded) own →
+      Life K m (event calls.seals (refused (refusal_of e.fault)) ∷ h) (loading e.back.loaded) (with_picture t'.picture own)
   pub settles : (plan : Plan) (x : Peeling) (grant : Grant) (t : Tables S) (r : Result (Peeling × (Option ℕ × ℕ)) (Refused (Peeling × Grant))) (t' : Tables S) →
       Settles K plan x grant t r t' → Lives K (λ m. shape plan ≡ shape_of m) (calls.settles grant.position) (peeling x.state) t (settle_outcome r t')
   pub finishes : (plan : Plan) (x : Peeling) (sums : List S) (r : Result Finished (Refused Peeling)) → Finishes K plan x sums r →
