@@ -267,8 +267,8 @@ module _ {S : Type 0} (K : Operations S) (m : Meaning S) where
   unfolding ghosted
   length-ghosted shape n t r e = ⊎_elim
       (λ (same : (seal K shape n t).tables ≡ t). ap (λ x. length x.picture) same)
-      (λ (ghost : (r ≡ refusal 9 (C shape) (R shape) 0) × ((seal K shape n t).tables ≡ with_ghost K shape t)).
-      ap (λ x. length x.picture) ghost.1 ∙ length-filled (pixels_of shape) _ t.picture)
+      (λ (ghost : (seals ≡ seals) × (r ≡ refusal 9 (C shape) (R shape) 0) × ((seal K shape n t).tables ≡ with_ghost K shape t)).
+      ap (λ x. length x.picture) ghost.2 ∙ length-filled (pixels_of shape) _ t.picture)
       (refusals_keep K shape m seals (loading n) t _ seal_does r e).1
 
   ghost_keeps : (h : History) (n : ℕ) (t : Tables S) (r : Refusal) (shape : Shape) (t' : Tables S) → WhileLoading h n t → t'.picture ≡ t.picture →

@@ -1,11 +1,11 @@
 -- The law, from what every call keeps.
-use Rattle.std.proofs.Common.{◌≡◌, ℕ, ◌*◌, ◌<◌, ◌≤◌, true, false, cond, ◌&&◌, eqb, ◌⊎◌, ◌↔◌, List, ◌∷◌, length, get_or, Some, None, sym, refl, ap, ◌∙◌, subst, ap₂, inl, inr, ⊎_elim, arith}
-use Rattle.std.proofs.lemmas.Bool.{cases_Bool, both_ways}
+use Rattle.std.proofs.Common.{◌≡◌, ℕ, ◌*◌, ◌<◌, ◌≤◌, true, false, cond, ◌&&◌, eqb, ◌⊎◌, ◌↔◌, List, ◌∷◌, length, get_or, Some, None, sym, refl, ap, ◌∙◌, subst, ap₂, inl, inr, ⊎_elim, arith, suc, ◌-◌, ltb}
+use Rattle.std.proofs.lemmas.Bool.{cases_Bool, both_ways, cond-true, cond-false, lt-ltb, le-ltb}
 use Rattle.samples.specs.declared.kind.Kind.{Ghosts as Operations}
 use Rattle.mojette.specs.Meaning.{Meaning, Agrees, Ghost, shape_of, bins_of}
 use Rattle.mojette.specs.Refusals.{Refusal, refusal}
 use Rattle.peeling.specs.declared.state.State.{State}
-use Rattle.peeling.specs.Counting.{number}
+use Rattle.peeling.specs.Counting.{number, tally}
 use Rattle.peeling.specs.History.{missing, waits}
 use Rattle.peeling.specs.History.{settled as settled_at}
 use Rattle.peeling.specs.Law.{settles_grant}
@@ -21,8 +21,9 @@ use Rattle.law.proofs.Agreement.{agrees_by_position, agrees_by_place}
 use Rattle.law.proofs.Lives.{WhileLoading, WhilePeeling, Kept, kept, peel_kept, peel_law, peel_facts, inside, take_is, settle_is, give_back_is, finish_is}
 use Rattle.law.proofs.Opening.{opens_exactly}
 use Rattle.law.proofs.Refusing.{refusals_keep}
-use Rattle.law.proofs.Sealing.{criterion_holds, criterion_fails, seal_ghost, seal_accepted}
+use Rattle.law.proofs.Sealing.{criterion_holds, criterion_fails, seal_ghost, seal_accepted, seal_early}
 use Rattle.law.proofs.Vanishing.{no_ghost, ghost_shown}
+use Rattle.law.proofs.Loading.{load_next, load_all, records_number}
 
 module _ {S : Type 0} (K : Operations S) (m : Meaning S) where
   -- Loading -------------------------------------------------------------------------------------------------------
@@ -67,7 +68,15 @@ module _ {S : Type 0} (K : Operations S) (m : Meaning S) where
 
   loading_facts : (h : History) (n : ℕ) (t : Tables S) → WhileLoading K m h n t → LoadingFacts K m h n t
   loading_facts h n t k =
-      record { loaded_is = k.count; seal_answers = answers h n t k; seal_refuses = refuses h n t k; ghost_shown = shows h n t k }
+      record {
+        loaded_is = k.count;
+        load_serves = λ l. ap (λ o. o.answer) (load_next K m n t k.long (let c = k.count in omega arith));
+        load_ends = λ e. ap (λ o. o.answer) (load_all K m n t k.long (let c = k.count in omega arith));
+        seal_waits = λ l. ap (λ o. o.answer) (seal_early K m n t k.long (let c = k.count in omega arith)) ∙ ap₂ (λ x y. refused (refusal 8 (x - y) 0 0)) (records_number K m) k.count;
+        seal_answers = answers h n t k;
+        seal_refuses = refuses h n t k;
+        ghost_shown = shows h n t k;
+      }
 
   -- State -------------------------------------------------------------------------------------------------------
 
@@ -146,6 +155,23 @@ module _ {S : Type 0} (K : Operations S) (m : Meaning S) where
           λ w. zero_finished (law.1 (w.0, agrees_by_position K m w.0 w.1)),
         )
 
+    finish_misses : (n : ℕ) → number (m.P * m.Q) (missing (incidence (shape_of m)) (since_seal h)) ≡ suc n → (finish K (shape_of m) s t).answer ≡ refused (refusal 13 (suc n) 0 0)
+    unfolding finish_answers
+    finish_misses n e =
+        let left : s.left ≡ suc n = (peel_facts K m h s t k).left_is ∙ e in
+        ap (λ o. o.answer) (finish_is K m h s t k)
+        ∙ ap (λ a. (finish_outcome K (shape_of m) s t a).answer) (cond-true (ltb 0 s.left) _ _ (lt-ltb 0 s.left (omega (arith, left))) ∙ ap pixels_missing left)
+
+    finish_waits : ((c : ℕ) → c < m.P * m.Q → Found K m h c) → (n : ℕ) → tally (T K m) (grants_of K m h) ≡ suc n → (finish K (shape_of m) s t).answer ≡ refused (refusal 14 (suc n) 0 0)
+    unfolding finish_answers
+    finish_waits found n e =
+        let left : s.left ≡ 0 = (peel_facts K m h s t k).left_is ∙ number_zero _ _ found in
+        let out : s.out ≡ suc n = (peel_facts K m h s t k).out_is ∙ e in
+        ap (λ o. o.answer) (finish_is K m h s t k)
+        ∙ ap (λ a. (finish_outcome K (shape_of m) s t a).answer)
+        (cond-false (ltb 0 s.left) _ _ (le-ltb 0 s.left (omega (arith, left)))
+        ∙ cond-true (ltb 0 s.out) _ _ (lt-ltb 0 s.out (omega (arith, out))) ∙ ap grants_out out)
+
     peeling_facts : PeelingFacts K m h s t
     peeling_facts =
         record {
@@ -160,6 +186,8 @@ module _ {S : Type 0} (K : Operations S) (m : Meaning S) where
           settled_is = (peel_facts K m h s t k).settled_is;
           settles_few = (peel_facts K m h s t k).settles_few;
           found_right = λ c l f tile g. sym ((peel_facts K m h s t k).found_right c l f tile (agrees_by_position K m tile g));
+          finish_misses = finish_misses;
+          finish_waits = finish_waits;
           finish_serves = finish_serves;
           picture_agrees = λ e. agrees_by_place K m _ ((peel_facts K m h s t k).picture_agrees (finished_zero e));
           no_other = λ e tile g. (peel_facts K m h s t k).picture_only (finished_zero e) tile (agrees_by_position K m tile g);

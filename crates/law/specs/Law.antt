@@ -1,5 +1,5 @@
 -- The law of a tile's life: what holds each time a call on it ends.
-use Rattle.std.specs.Prelude.{◌≡◌, ℕ, ◌*◌, ◌<◌, ◌≤◌, true, false, cond, ◌&&◌, ◌⊎◌, ◌↔◌, List, ◌∷◌, length, take as first, Some, None, Option, ◌==◌, slice_index_or}
+use Rattle.std.specs.Prelude.{◌≡◌, ℕ, ◌*◌, ◌<◌, ◌≤◌, true, false, cond, ◌&&◌, ◌⊎◌, ◌↔◌, List, ◌∷◌, length, take as first, Some, None, Option, ◌==◌, slice_index_or, suc, ◌-◌}
 use Rattle.samples.specs.declared.kind.Kind.{Ghosts as Operations}
 use Rattle.mojette.specs.Meaning.{Shape, Meaning, Agrees, Ghost, shape_of, bins_of}
 use Rattle.mojette.specs.Refusals.{Refusal, refusal}
@@ -8,9 +8,9 @@ use Rattle.peeling.specs.Counting.{number, tally, least}
 use Rattle.peeling.specs.History.{missing, missing_in, waits, out, settles}
 use Rattle.peeling.specs.History.{settled as settled_at}
 use Rattle.law.specs.Positions.{incidence}
-use Rattle.law.specs.Steps.{Stage, loading, peeling, finished, Tables, Answer, done, granted, settled, refused, Outcome, C, R, with_ghost, seal, take, settle, give_back, finish}
+use Rattle.law.specs.Steps.{Stage, loading, peeling, finished, Tables, Answer, done, granted, settled, refused, Outcome, C, R, with_ghost, seal, take, settle, give_back, finish, load}
 use Rattle.law.specs.Opening.{OpensExactly}
-use Rattle.law.specs.Life.{Call, History, loaded_places, since_seal, Does, Life}
+use Rattle.law.specs.Life.{Call, History, loaded_places, since_seal, Does, Life, seals}
 
 abbrev pub Refused : Answer → Type 0
 Refused a = (r : Refusal) × (a ≡ refused r)
@@ -57,6 +57,11 @@ module _ {S : Type 0} (K : Operations S) (m : Meaning S) where
   -- On a tile that is loading:
   pub record WhileLoading (h : History) (n : ℕ) (t : Tables S) : Type 0 where
     pub loaded_is : n ≡ loaded_places h
+    -- Load is served while places are left, and else refuses.
+    pub load_serves : loaded_places h < length m.places → (load K (shape_of m) m n t).answer ≡ done
+    pub load_ends : loaded_places h ≡ length m.places → (load K (shape_of m) m n t).answer ≡ refused (refusal 6 0 0 0)
+    -- Seal tells how many are left, while some are.
+    pub seal_waits : loaded_places h < length m.places → (seal K (shape_of m) n t).answer ≡ refused (refusal 8 (length m.places - loaded_places h) 0 0)
     -- Seal, once every place is loaded, is served, or refuses for a ghost: exactly when there is one. The picture then holds one.
     pub seal_answers : loaded_places h ≡ length m.places →
         ((seal K (shape_of m) n t).answer ≡ done) ⊎ ((seal K (shape_of m) n t).answer ≡ ghosts_remain)
@@ -87,6 +92,11 @@ module _ {S : Type 0} (K : Operations S) (m : Meaning S) where
     -- A pixel found has the picture's value in every tile that agrees with the source.
     pub found_right : (c : ℕ) → c < m.P * m.Q → Found h c →
         (tile : List S) → Agrees K m tile → slice_index_or tile c K.zero ≡ slice_index_or t.picture c K.zero
+    -- Finish tells how many pixels are missing, while some are; and else how many grants are out, while some are.
+    pub finish_misses : (n : ℕ) → number (m.P * m.Q) (missing (incidence (shape_of m)) (since_seal h)) ≡ suc n →
+        (finish K (shape_of m) s t).answer ≡ refused (refusal 13 (suc n) 0 0)
+    pub finish_waits : ((c : ℕ) → c < m.P * m.Q → Found h c) → (n : ℕ) → tally T (grants_of h) ≡ suc n →
+        (finish K (shape_of m) s t).answer ≡ refused (refusal 14 (suc n) 0 0)
     -- Finish, with no pixel missing and no grant out, is served exactly when some tile agrees with the source.
     -- The picture then holds that tile, and no other agrees.
     pub finish_serves : ((c : ℕ) → c < m.P * m.Q → Found h c) → ((b : ℕ) → b < T → grants_of h b ≡ 0) →
@@ -112,7 +122,7 @@ module _ {S : Type 0} (K : Operations S) (m : Meaning S) where
 abbrev pub RefusalsKeep : {S : Type 0} → Operations S → Type 0
 RefusalsKeep {S} K = (shape : Shape) (m : Meaning S) (c : Call) (stage : Stage) (t : Tables S) (o : Outcome S) → Does K shape m c stage t o →
     (r : Refusal) → o.answer ≡ refused r →
-    (o.stage ≡ stage) × ((o.tables ≡ t) ⊎ ((r ≡ refusal 9 (C shape) (R shape) 0) × (o.tables ≡ with_ghost K shape t)))
+    (o.stage ≡ stage) × ((o.tables ≡ t) ⊎ ((c ≡ seals) × (r ≡ refusal 9 (C shape) (R shape) 0) × (o.tables ≡ with_ghost K shape t)))
 
 -- The law, for a kind of sample: which meanings are opened; what a refused call leaves; and whatever a source means,
 -- whatever calls a tile has met since the open that gave it, in whatever order and number, the facts hold.

@@ -96,7 +96,7 @@ module _ {S : Type 0} (K : Operations S) where
     answer = ap (λ o. o.answer) (sym does)
 
     leaves : (loading e.back.loaded ≡ loading x.loaded) ×
-        ((t' ≡ t) ⊎ ((refusal_of e.fault ≡ refusal 9 (C (shape plan)) (R (shape plan)) 0) × (t' ≡ with_ghost K (shape plan) t)))
+        ((t' ≡ t) ⊎ ((calls.seals ≡ calls.seals) × (refusal_of e.fault ≡ refusal 9 (C (shape plan)) (R (shape plan)) 0) × (t' ≡ with_ghost K (shape plan) t)))
     leaves = refusals_keep K (shape plan) m calls.seals (loading x.loaded) t _
         (subst (Does K (shape plan) m calls.seals (loading x.loaded) t) (sym does) seal_does) (refusal_of e.fault) refl
 
@@ -110,8 +110,8 @@ module _ {S : Type 0} (K : Operations S) where
     rest : with_picture t'.picture t ≡ t'
     rest = ⊎_elim
         (λ (none : t' ≡ t). ap (λ y. with_picture y.picture t) none ∙ sym none)
-        (λ (ghost : (refusal_of e.fault ≡ refusal 9 (C (shape plan)) (R (shape plan)) 0) × (t' ≡ with_ghost K (shape plan) t)).
-        ap (λ y. with_picture y.picture t) ghost.1 ∙ sym ghost.1)
+        (λ (ghost : (calls.seals ≡ calls.seals) × (refusal_of e.fault ≡ refusal 9 (C (shape plan)) (R (shape plan)) 0) × (t' ≡ with_ghost K (shape plan) t)).
+        ap (λ y. with_picture y.picture t) ghost.2 ∙ sym ghost.2)
         leaves.1
 
     seals_refused : Life K m h (loading x.loaded) t → Life K m (event calls.seals (refused (refusal_of e.fault)) ∷ h) (loading e.back.loaded) t'
