@@ -12,8 +12,8 @@ returns-in-Ok g c =
     let C = g.K.Coded in
     let t = c.args.text.now in
     let m = file_meaning {K = K} c.in-Ok.file in record {
-      text = c.show.ensures.text ∙ ap (λ text. filling text c.args.out.now) (file_answer K C t m c.in-Ok.ensures);
-      law = file_prints K C t m c.in-Ok.ensures c.show.ensures.law;
+      text = c.show.ensures.text ∙ ap (λ text. filling text c.args.out.now) (file_answer K C t m c.in-Ok.ensures.read);
+      law = file_prints K C t m c.in-Ok.ensures.read c.show.ensures.law;
     }
 
 pub returns-in-Err : goal.returns-in-Err
@@ -22,6 +22,6 @@ returns-in-Err g c =
     let C = g.K.Coded in
     let t = c.args.text.now in
     let q = refusal_of c.in-Err.fault in record {
-      text = c.write_refusal.ensures ∙ ap (λ text. filling text c.args.out.now) (ap refusal_text c.from.ensures ∙ none_answer K C t q c.in-Err.ensures);
-      law = none_prints K C t q c.in-Err.ensures;
+      text = c.write_refusal.ensures ∙ ap (λ text. filling text c.args.out.now) (ap refusal_text c.from.ensures ∙ none_answer K C t q c.in-Err.ensures.read);
+      law = none_prints K C t q c.in-Err.ensures.read;
     }
