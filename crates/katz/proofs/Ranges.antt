@@ -43,7 +43,3 @@ raw_in_range P Q d law k l h h' =
     let r : Reached (P - 1) (Q - 1) d.p d.q k l =
     subst₂ (λ u v. Reached u v d.p d.q k l) e f (reach_down d.p d.q k (P - suc k) l (Q - suc l) (lawful_is d law).down) in
     record { b = r.0; inside = r.1; same = r.2 }
-
--- A bin is known by its raw number.
-pub same_bin : (P Q : ℕ) (d : Direction) (a b : ℕ) → raw_of P Q d a ≡ raw_of P Q d b → a ≡ b
-same_bin P Q d a b e = omega (arith, ints)

@@ -12,6 +12,10 @@ use Rattle.samples.proofs.Sums.{sum_same}
 use Rattle.law.specs.Positions.{incidence, whole_at, lies_at, sum_at}
 use Rattle.law.proofs.Places.{B, lies_here, lies_there, whole_here, whole_there, sum_here, sum_there, Split, here, there, split}
 
+-- the records of the places
+abbrev pub records : {S : Type 0} → List (Place S) → List Record
+records places = map (λ x. x.entry) places
+
 module _ {S : Type 0} (K : Operations S) (m : Meaning S) where
   -- the source's sums, by position
   abbrev pub source : ℕ → S
@@ -33,9 +37,6 @@ module _ {S : Type 0} (K : Operations S) (m : Meaning S) where
     abbrev PlaceAgrees : Place S → Type 0
     PlaceAgrees x = whole x.entry ≡ true → (b : ℕ) → b < bins m.P m.Q x.entry.direction
         → bin_sum K m.P m.Q tile x.entry.direction b ≡ get_or x.sums b K.zero
-
-    abbrev records : List (Place S) → List Record
-    records places = map (λ x. x.entry) places
 
     abbrev AtPositions : List (Place S) → Type 0
     AtPositions places = (x : ℕ) → x < all_bins m.P m.Q (records places) → whole_at m.P m.Q (records places) x ≡ true

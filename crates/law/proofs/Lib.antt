@@ -11,4 +11,3 @@ pub mod Sealing
 pub mod Lives
 pub mod Outcome
 pub mod Worked
-pub mod Bridges

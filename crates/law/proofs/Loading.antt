@@ -1,5 +1,5 @@
 -- Loading writes the bins of each place at their positions.
-use Rattle.std.proofs.Common.{◌≡◌, ℕ, zero, suc, ◌+◌, ◌-◌, ◌<◌, ◌≤◌, true, false, cond, leb, List, [], ◌∷◌, map, length, get_or, sym, refl, ap, ◌∙◌, subst, ap₂, ⊎_elim, arith}
+use Rattle.std.proofs.Common.{◌≡◌, ℕ, zero, suc, ◌+◌, ◌-◌, ◌<◌, ◌≤◌, true, false, cond, leb, List, [], ◌∷◌, length, get_or, sym, refl, ap, ◌∙◌, subst, ap₂, ⊎_elim, arith}
 use Rattle.std.proofs.lemmas.List.{length-map, get_or-map, get_or-set_other}
 use Rattle.std.proofs.lemmas.Bool.{cases_lt, cond-false, le-ltb, le-leb, lt-leb, eq-eqb, and_from}
 use Rattle.samples.specs.declared.kind.Kind.{Ghosts as Operations}
@@ -12,7 +12,7 @@ use Rattle.peeling.specs.Incidence.{loaded}
 use Rattle.law.specs.Positions.{whole_at, sum_at, incidence}
 use Rattle.law.specs.Steps.{loading, Tables, done, served, refuse, short_sums, no_record, no_place, same_record, fits, written, with_place, load}
 use Rattle.law.specs.Life.{LongEnough}
-use Rattle.law.proofs.Agreement.{source}
+use Rattle.law.proofs.Agreement.{records, source}
 use Rattle.law.proofs.Writing.{length-written, get_or-written}
 use Rattle.law.proofs.Places.{front, shift, B, sum_here, sum_there, at, next_start, last_start, within_all, whole_of}
 
@@ -27,9 +27,6 @@ get_or-before from (suc n) f xs d x l =
 -- What stands at a position --------------------------------------------------------------------------------------
 
 module _ {S : Type 0} (P Q : ℕ) where
-  abbrev records : List (Place S) → List Record
-  records places = map (λ x. x.entry) places
-
   -- the record of place n
   entry_of : (places : List (Place S)) (n : ℕ) → n < length places → at P Q (records places) n ≡ (get_or places n no_place).entry
   entry_of places n l = get_or-map (λ x. x.entry) places n no_place no_record l

@@ -1,12 +1,11 @@
 -- Ghosts of a source are the ghosts of the directions of its whole places.
-use Rattle.std.proofs.Common.{◌≡◌, ℕ, ◌*◌, ◌<◌, ◌≤◌, Bool, true, false, cond, List, [], ◌∷◌, map, length, take as first, sym, refl, ◌∙◌, subst, arith}
+use Rattle.std.proofs.Common.{◌≡◌, ℕ, ◌*◌, ◌<◌, ◌≤◌, Bool, true, false, cond, List, [], ◌∷◌, length, take as first, sym, refl, ◌∙◌, subst, arith}
 use Rattle.std.specs.List.{AllByRecursion}
 use Rattle.std.proofs.lemmas.List.FromFn.{length-map-range_with_len, get_or-map-range_with_len}
 use Rattle.std.proofs.lemmas.List.{get_or-take, length-take-le, ext_get_or}
 use Rattle.std.proofs.lemmas.Bool.{both_ways}
 use Rattle.samples.specs.declared.kind.Kind.{Ghosts as Operations}
 use Rattle.mojette.specs.declared.direction.Direction.{Direction}
-use Rattle.mojette.specs.declared.direction.Record.{Record}
 use Rattle.mojette.specs.Bins.{bins, whole, whole_directions}
 use Rattle.mojette.specs.Directions.{LawfulDirections}
 use Rattle.mojette.specs.Meaning.{Place, Meaning, Ghost, Lawful, shape_of}
@@ -20,12 +19,10 @@ use Rattle.katz.proofs.Order.{whole_lawful}
 use Rattle.peeling.specs.Steps.{filled}
 use Rattle.peeling.proofs.Loops.{length-filled, get_or-filled}
 use Rattle.law.specs.Steps.{ghosted}
+use Rattle.law.proofs.Agreement.{records}
 use Rattle.law.proofs.Opening.{opens}
 
 module _ {S : Type 0} where
-  abbrev records : List (Place S) → List Record
-  records places = map (λ x. x.entry) places
-
   -- from the whole places to all their directions, and back
   module _ (R : Direction → Type 0) where
     to_directions : (places : List (Place S)) → AllByRecursion (λ x. whole x.entry ≡ true → R x.entry.direction) places → AllByRecursion R (whole_directions (records places))

@@ -14,11 +14,6 @@ module _ {X : Type 0} (from : ℕ) where
   unfolding written
   written_more n f xs ys v e here = (λ i. set (e i) (from + n) (here i)) ∙ ap (λ k. written from k f xs) (sym (add-one n))
 
-  pub written_same : (n : ℕ) (f g : ℕ → X) (xs : List X) → ((i : ℕ) → i < n → f i ≡ g i) → written from n f xs ≡ written from n g xs
-  unfolding written
-  written_same zero f g xs same = refl
-  written_same (suc n) f g xs same = (λ j. set (written_same n f g xs (λ i l. same i (omega arith)) j) (from + n) (same n (omega arith) j))
-
   pub length-written : (n : ℕ) (f : ℕ → X) (xs : List X) → length (written from n f xs) ≡ length xs
   unfolding written
   length-written zero f xs = refl

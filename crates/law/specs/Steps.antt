@@ -57,7 +57,7 @@ tables_of w = record { picture = w.picture; marks = w.marks; sums = w.sums; coun
 abbrev pub peels_on : {S : Type 0} → World S → Answer → Outcome S
 peels_on w a = served (peeling w.state) (tables_of w) a
 
--- Reason 5: a table is too short --------------------------------------------------------------------------------
+-- Refusal 5: a table is too short -------------------------------------------------------------------------------
 
 -- the number of the first table that is too short; 0 if none is
 unfoldable pub short : {S : Type 0} → Shape → Tables S → ℕ

@@ -51,11 +51,6 @@ tally_change (suc n) f g c l same = ⊎_elim
     omega arith)
     (cases_eq c n)
 
-pub tally_add : (n : ℕ) (f g : ℕ → ℕ) → tally n (λ i. f i + g i) ≡ tally n f + tally n g
-unfolding tally
-tally_add zero f g = refl
-tally_add (suc n) f g = let rest = tally_add n f g in omega arith
-
 pub number_same : (n : ℕ) (p q : ℕ → Bool) → ((i : ℕ) → i < n → p i ≡ q i) → number n p ≡ number n q
 unfolding number
 number_same n p q same = tally_same n _ _ (λ i l. ap one_if (same i l))

@@ -96,16 +96,13 @@ module _ {A : Type 0} (K : Operations A) (I : Incidence) (fits : I.bins ≤ most
     v : A
     v = get_or w.sums a K.zero
 
-    fewer : (b : ℕ) → missing_in I (settled a ∷ h) b + one_if (I.lies c b) ≡ missing_in I h b
-    fewer = solo_bin I h a c s
-
     new_grants : Grants I (settled a ∷ h)
     new_grants = grants_settled I h a kept.counters.grants some
-        (λ e. let f = fewer a in let o : one_if (I.lies c a) ≡ 1 = ap one_if s.lies_in in omega arith)
-        (λ b. let f = fewer b in omega arith)
+        (λ e. let f = solo_bin I h a c s a in let o : one_if (I.lies c a) ≡ 1 = ap one_if s.lies_in in omega arith)
+        (λ b. let f = solo_bin I h a c s b in omega arith)
 
     down_is : (b : ℕ) → b < I.bins → (I.lies c b && eqb (get_or w.counts b 0 - 1) 1) ≡ (not (eqb (missing_in I h b) 1) && eqb (missing_in I (settled a ∷ h) b) 1)
-    down_is b l = ap (λ x. I.lies c b && eqb (x - 1) 1) (kept.marked.counts b l) ∙ down_new (missing_in I h b) (missing_in I (settled a ∷ h) b) (I.lies c b) (fewer b)
+    down_is b l = ap (λ x. I.lies c b && eqb (x - 1) 1) (kept.marked.counts b l) ∙ down_new (missing_in I h b) (missing_in I (settled a ∷ h) b) (I.lies c b) (solo_bin I h a c s b)
 
     -- a bin that comes down to one did not wait
     apart : (b : ℕ) → b < I.bins → (I.lies c b && eqb (get_or w.counts b 0 - 1) 1) ≡ true → waits I h b ≡ false
@@ -148,13 +145,13 @@ module _ {A : Type 0} (K : Operations A) (I : Incidence) (fits : I.bins ≤ most
           (λ (on : I.lies c b ≡ true).
           let e = loop.counts.hit b l on in
           let m = kept.marked.counts b l in
-          let f = fewer b in
+          let f = solo_bin I h a c s b in
           let o : one_if (I.lies c b) ≡ 1 = ap one_if on in
           omega arith)
           (λ (off : I.lies c b ≡ false).
           let e = loop.counts.miss b off in
           let m = kept.marked.counts b l in
-          let f = fewer b in
+          let f = solo_bin I h a c s b in
           let o : one_if (I.lies c b) ≡ 0 = ap one_if off in
           omega arith)
           (cases_Bool (I.lies c b));
