@@ -1,5 +1,5 @@
 // Reading the lines of a file.
-ghost use Rattle.std.specs.Prelude.{◌≡◌, [], map, None};
+ghost use Rattle.std.specs.Prelude.{[], map, None};
 ghost use Rattle.mojette.specs.Bounds.{most_places};
 ghost use Rattle.mojette.specs.Meaning.{Place};
 ghost use Rattle.format.specs.Format.{codes_reader, sums_reader, held_reader, dir_reader, end_reader, places_reader, head_reader};

@@ -6,6 +6,15 @@ use plan::Plan;
 use runs::rebuild::rebuild;
 use source::Rack;
 
+// The records of the places, by their numbers.
+fn records_of(p: &[i32], q: &[i32], causes: &[u8]) -> [Record; MOST_PLACES] {
+    let mut records = [Record::new(0, 0, 0); MOST_PLACES];
+    for (i, entry) in records.iter_mut().enumerate() {
+        *entry = record_at(p, q, causes, i);
+    }
+    records
+}
+
 // Rebuilds a tile from the sums of its places, one after another, so many times over, and writes its picture. Answers how many pixels it has.
 #[unsafe(no_mangle)]
 pub extern "C" fn exported_rebuild(
@@ -21,10 +30,7 @@ pub extern "C" fn exported_rebuild(
     queue: &mut [u16],
     times: u32,
 ) -> usize {
-    let mut records = [Record::new(0, 0, 0); MOST_PLACES];
-    for (i, entry) in records.iter_mut().enumerate() {
-        *entry = record_at(p, q, causes, i);
-    }
+    let records = records_of(p, q, causes);
     let mut run = [ZERO; MOST_BINS];
     words_of(sums, &mut run);
     let records = &records[..p.len().min(MOST_PLACES)];

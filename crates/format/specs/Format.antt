@@ -18,7 +18,7 @@ use Rattle.format.specs.Readers.{Parsed, done, fault, Reader, ◌>>=◌, ◌>>�
 abbrev pub most_cause : ℕ
 most_cause = 255
 
--- a numeral from low to high, else the reason why
+-- a numeral from low to high; another numeral has the reason why, what is no numeral has reason 0
 abbrev pub within : ℕ → ℕ → ℕ → Option ℤ → Worth ℕ
 within low high why None = bad 0
 within low high why (Some (pos v)) = cond (nat_le low v && nat_le v high) (good v) (bad why)

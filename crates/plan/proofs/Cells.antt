@@ -57,11 +57,11 @@ raw_at false (suc n) q k x l y =
     let m : int_min (pos (suc n)) (pos 0) ≡ pos 0 = cond-true (ltb 0 (suc n)) (pos 0) (pos (suc n)) (lt-ltb 0 (suc n) (omega arith)) in
     rw m (omega (arith, ints))
 
-turned_back : (b : Bool) (Q n : ℕ) → n < Q → turned b Q (turned b Q n) ≡ n
+pub turned_back : (b : Bool) (Q n : ℕ) → n < Q → turned b Q (turned b Q n) ≡ n
 turned_back true Q n l = omega arith
 turned_back false Q n l = refl
 
-turned_inside : (b : Bool) (Q n : ℕ) → n < Q → turned b Q n < Q
+pub turned_inside : (b : Bool) (Q n : ℕ) → n < Q → turned b Q n < Q
 turned_inside true Q n l = omega arith
 turned_inside false Q n l = l
 

@@ -31,7 +31,7 @@ pub(crate) fn cell_of(size: Size, k: usize, l: usize) -> usize
 }
 
 impl Place {
-    // The bin of the pixel in column k and row l, two counters of the loops that ask. (Size and place, as for `lay`.)
+    // The bin of the pixel in column k and row l; a projection asks for the first column of each row. (Size and place, as for `lay`.)
     pub(crate) fn bin_of(self, size: Size, k: usize, l: usize) -> usize
         requires pixel { (k < size.columns) × (l < size.rows) }
         requires steps { (self.q ≤ 7) × (self.slope ≤ 7) }

@@ -5,8 +5,8 @@ ghost use Rattle.samples.specs.Names.{Naming};
 
 use crate::kind::Kind;
 
-// A kind with a name, which is a word of a file of at most 255 bytes, a number of digits, and a number for each sample, which its code writes in
-// that many digits.
+// A kind with a name, which is a word of a file of at most 255 bytes, a number of digits, from 1 to 12, and a number for each sample, which its
+// code writes in that many digits.
 pub trait Coded: Kind {
     ghost name: { List ℕ };
 

@@ -1,5 +1,5 @@
 // The strip of a place: the mean sample of each of its bins.
-ghost use Rattle.std.specs.Prelude.{◌≡◌, ℕ, ◌*◌, ◌<◌, ◌≤◌, true, ◌++◌, map, length, drop, slice_index_or};
+ghost use Rattle.std.specs.Prelude.{◌≡◌, ℕ, ◌*◌, ◌<◌, ◌≤◌, true, map, length, slice_index_or};
 ghost use Rattle.std.specs.List.{range_with_len};
 ghost use Rattle.samples.specs.Words.{sum_zero};
 ghost use Rattle.mojette.specs.Bins.{bins as bin_number, whole};
@@ -14,7 +14,7 @@ use mojette::{Direction, Fault, MOST_SIDE, MOST_STEP, Size};
 use plan::project::project;
 use samples::SumWord;
 
-// The most pixels of a tile, and the most bins of a direction.
+// The most pixels of a tile, and room for the bins of any direction.
 const MOST_PIXELS: usize = MOST_SIDE * MOST_SIDE;
 
 const MOST_BINS: usize = 2 * (MOST_SIDE - 1) * (MOST_STEP as usize) + 1;
@@ -82,7 +82,7 @@ pub fn strip<S: Source<Sample = SumWord>>(
     if record.cause != 0 {
         return Err(Fault::Lost(record.cause));
     }
-    // Arrays of the most that a tile has: nothing is allocated.
+    // Arrays with room for any tile and direction: nothing is allocated.
     let ones = [SumWord { value: 1 }; MOST_PIXELS];
     let mut counts = [SumWord { value: 0 }; MOST_BINS];
     let bins = count_pixels(plan.size(), record.direction, &ones, &mut counts);

@@ -1,5 +1,5 @@
 -- Loading a place of a source that fits.
-use Rattle.std.proofs.Common.{◌≡◌, ℕ, zero, suc, ◌+◌, ◌<◌, ◌≤◌, true, eqb, List, [], ◌∷◌, length, get_or, sym, refl, ap, ◌∙◌, subst, ap₂, arith}
+use Rattle.std.proofs.Common.{◌≡◌, ℕ, ◌+◌, ◌<◌, ◌≤◌, true, eqb, List, length, get_or, sym, ap, ◌∙◌, subst, ap₂, arith}
 use Rattle.std.proofs.lemmas.List.{length-map}
 use Rattle.std.proofs.lemmas.Bool.{eqb-true, and_parts}
 use Rattle.std.proofs.lemmas.Bool.Decides.{nat_tests}
@@ -16,14 +16,9 @@ use Rattle.plan.specs.Laid.{place_at as nth}
 use Rattle.plan.specs.Shapes.{shape, places_of}
 use Rattle.source.specs.Questions.{place_at, bins_at}
 use Rattle.law.specs.Steps.{no_record, same_record, fits, written, with_place, load, loading, done, served, short_sums, Tables}
-use Rattle.walk.proofs.Laying.{bins_are, turn}
+use Rattle.walk.proofs.Laying.{record_at, bins_are, turn}
 use Rattle.tile.specs.Outcomes.{tables}
 use Rattle.tile.specs.Loads.{bin_value}
-
-record_at : (xs : List Place) (i : ℕ) → i < length xs → get_or (records_of xs) i no_record ≡ record_of (nth xs i)
-record_at [] i l = absurd (omega arith)
-record_at (x ∷ xs) zero l = refl
-record_at (x ∷ xs) (suc i) l = record_at xs i (omega arith)
 
 -- what holds of a source that fits
 module _ {S : Type 0} (shape : Shape) (m : Meaning S) (n : ℕ) where

@@ -1,7 +1,6 @@
 -- The first sum left over, and the outcome of a finish.
-use Rattle.std.proofs.Common.{◌≡◌, ℕ, ◌+◌, ◌<◌, Bool, true, false, not, List, length, get_or, sym, ap, ◌∙◌, ⊎_elim, arith}
+use Rattle.std.proofs.Common.{◌≡◌, ℕ, ◌<◌, Bool, true, false, not, List, length, get_or, sym, ap, ◌∙◌, arith}
 use Rattle.std.proofs.lemmas.List.{get_or_read}
-use Rattle.std.proofs.lemmas.Bool.{cases_eq}
 use Rattle.samples.specs.declared.kind.Kind.{Ghosts as Operations}
 use Rattle.mojette.specs.Meaning.{bins_of}
 use Rattle.peeling.specs.Steps.{first_left_over}
@@ -21,9 +20,6 @@ module _ {S : Type 0} (K : Operations S) (sums : List S) where
   -- what the test of an element says, read at any default
   pub read_left : (x : ℕ) (v z : S) (t : Bool) → x < length sums → v ≡ get_or sums x v → z ≡ K.zero → t ≡ K.equal v z → left_at x ≡ not t
   read_left x v z t l e is test = let r = get_or_read sums x v l e K.zero in cc
-
-  pub one_more : (n : ℕ) → ((x : ℕ) → x < n → left_at x ≡ false) → left_at n ≡ false → (x : ℕ) → x < n + 1 → left_at x ≡ false
-  one_more n before here x l = ⊎_elim (λ (e : x ≡ n). ap left_at e ∙ here) (λ (ne : x ≡ n → ⊥). before x (omega arith)) (cases_eq x n)
 
   pub first_is : (T n : ℕ) → n < T → left_at n ≡ true → ((x : ℕ) → x < n → left_at x ≡ false) → first_left_over K T sums ≡ n
   unfolding first_left_over

@@ -1,5 +1,5 @@
 -- Each call does its step: what it leaves and answers is what the step makes of the same plan, state and tables.
--- A call that is not passed some table says so whatever that table holds.
+-- Where a call is not passed a table, what it says of its step holds whatever stands in that table.
 use Rattle.std.specs.Prelude.{◌≡◌, ℕ, List, Some, None, Ok, Err, Option, Result}
 use Rattle.samples.specs.declared.kind.Kind.{Ghosts as Operations}
 use Rattle.mojette.specs.declared.fault.Fault.{Fault}

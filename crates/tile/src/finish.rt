@@ -1,5 +1,5 @@
 // Finishing a tile, and its picture, written once for every kind of sample.
-ghost use Rattle.std.specs.Prelude.{◌≡◌, ◌<◌, ◌≤◌, length, take as first, IfOk, MatchOption};
+ghost use Rattle.std.specs.Prelude.{◌≡◌, ◌≤◌, length, IfOk, MatchOption};
 ghost use Rattle.mojette.specs.Meaning.{pixels_of, bins_of};
 ghost use Rattle.peeling.specs.Steps.{first_left_over};
 ghost use Rattle.plan.specs.Shapes.{shape};

@@ -9,21 +9,13 @@ use Rattle.peeling.proofs.Bridges.{least_alone}
 use Rattle.peeling.proofs.Counts.{tally_same, number_same, number_one, number_alone, least_some, least_passes}
 use Rattle.plan.specs.declared.places.Place.{Place}
 use Rattle.plan.specs.Laid.{direction_of, turned, bin_number}
-use Rattle.plan.proofs.Cells.{lies_there, lies_only_there}
+use Rattle.plan.proofs.Cells.{turned_back, turned_inside, lies_there, lies_only_there}
 use Rattle.walk.specs.declared.line.Line.{Line}
 use Rattle.walk.specs.declared.pixel.Pixel.{Pixel}
 use Rattle.walk.specs.Finding.{pixel_in, OfTile}
 use Rattle.walk.specs.Walking.{On, pixel_at, missing}
 use Rattle.walk.proofs.Tallies.{tally_back, number_rows, in_rows}
 use Rattle.walk.proofs.Walks.{Passes, Alone, NoneAlone}
-
-turned_back : (b : Bool) (Q n : ℕ) → n < Q → turned b Q (turned b Q n) ≡ n
-turned_back true Q n l = omega arith
-turned_back false Q n l = refl
-
-turned_inside : (b : Bool) (Q n : ℕ) → n < Q → turned b Q n < Q
-turned_inside true Q n l = omega arith
-turned_inside false Q n l = l
 
 -- the pixel at x columns to the right edge and y rows along, and back
 module _ (P Q : ℕ) (b : Bool) where

@@ -1,6 +1,6 @@
 -- The pixel that is found, as the contracts say it.
-use Rattle.std.proofs.Common.{◌≡◌, ℕ, ◌*◌, ◌<◌, ◌≤◌, Bool, true, false, cond, ◌&&◌, eqb, ltb, List, length, get_or, Some, None, Option, sym, ap, ◌∙◌, arith}
-use Rattle.std.proofs.lemmas.Bool.{cond-true, cond-false, and_from, and_left, and_right, ne_eqb, lt-ltb, le-ltb, le-leb, lt-leb}
+use Rattle.std.proofs.Common.{◌≡◌, ℕ, ◌*◌, ◌<◌, ◌≤◌, Bool, true, false, cond, ◌&&◌, eqb, List, length, get_or, Some, None, Option, sym, ap, ◌∙◌, arith}
+use Rattle.std.proofs.lemmas.Bool.{cond-true, cond-false, and_from, ne_eqb, lt-ltb, le-ltb, le-leb}
 use Rattle.mojette.specs.Bins.{in_bin, whole}
 use Rattle.mojette.specs.Meaning.{Shape, pixels_of, bins_of}
 use Rattle.peeling.specs.Counting.{number}
@@ -37,12 +37,6 @@ module _ (s : Shape) (x : ℕ) where
   module _ (marks : List ℕ) where
     pub lone_there : x < bins_of s → pixels_of s ≤ length marks → alone s.P s.Q (missing_at s marks x) ≡ lone s marks x
     lone_there l l' = sym (cond-true _ _ _ (and_from _ _ (lt-ltb x (bins_of s) l) (le-leb (pixels_of s) (length marks) l')))
-
-    pub lone_nowhere : bins_of s ≤ x → None ≡ lone s marks x
-    lone_nowhere l = sym (cond-false _ _ _ (and_left (ltb x (bins_of s)) _ (le-ltb x (bins_of s) l)))
-
-    pub no_marks : length marks < pixels_of s → None ≡ lone s marks x
-    no_marks l = sym (cond-false _ _ _ (and_right (ltb x (bins_of s)) _ (lt-leb (pixels_of s) (length marks) l)))
 
     -- no pixel lies there
     lone_lost : ((c : ℕ) → (incidence s).lies c x ≡ false) → None ≡ alone s.P s.Q (missing_at s marks x)

@@ -48,7 +48,7 @@ some_step : (q : ℕ) (leftward : Bool) (n : ℕ) → (pos q ≡ pos 0 → signe
 some_step zero leftward n level = let e : n ≡ 1 = sym (size_of leftward n) ∙ ap nat_abs (level refl) in omega arith
 some_step (suc q) leftward n level = omega arith
 
-record_at : (xs : List Place) (i : ℕ) → i < length xs → get_or (records_of xs) i no_record ≡ record_of (nth xs i)
+pub record_at : (xs : List Place) (i : ℕ) → i < length xs → get_or (records_of xs) i no_record ≡ record_of (nth xs i)
 record_at [] i l = absurd (omega arith)
 record_at (x ∷ xs) zero l = refl
 record_at (x ∷ xs) (suc i) l = record_at xs i (omega arith)

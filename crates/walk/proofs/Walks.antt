@@ -16,12 +16,6 @@ module _ (l : Line) where
   -- To the first pixel ------------------------------------------------------------------------------------------
 
   module _ (x y : ℕ) (ahead : Ahead l x y) (u v : ℕ) (p : On l u v) where
-    pub past : l.bin < x * q + y * s → ((u < x) × (y ≤ v))
-    past over =
-        let a = ahead u v p in
-        let b = mul-le y s v s a.1 (omega arith) in
-        (⊎_elim (λ (k : u < x). k) (λ (k : x ≤ u). absurd (let d = mul-le x q u q k (omega arith) in omega arith)) (cases_lt u x), a.1)
-
     pub short : x * q + y * s < l.bin → ((u ≤ x) × (y < v))
     short under =
         let a = ahead u v p in

@@ -3,7 +3,7 @@
 use Rattle.std.specs.Prelude.{◌≡◌, ℕ, ◌+◌, ◌-◌, ◌*◌, ◌<◌, ◌≤◌}
 use Rattle.mojette.specs.Bounds.{most_side, most_step}
 
--- Only common multiples divide the two numbers evenly.
+-- Where u·q = v·s, a u below s is 0, and a v below q is 0.
 abbrev pub Coprime : ℕ → ℕ → Type 0
 Coprime s q = (u v : ℕ) → u * q ≡ v * s → ((u < s → u ≡ 0) × (v < q → v ≡ 0))
 

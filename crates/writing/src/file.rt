@@ -1,5 +1,5 @@
 // Writing files.
-ghost use Rattle.std.specs.Prelude.{◌≡◌, ◌≤◌, length};
+ghost use Rattle.std.specs.Prelude.{◌≡◌};
 ghost use Rattle.mojette.specs.Faults.{outcome};
 ghost use Rattle.writing.specs.Files.{file_filling};
 

@@ -1,7 +1,6 @@
-use Rattle.std.proofs.Common.{◌≡◌, ℕ, ◌<◌, ◌≤◌, true, List, length, take, sym, ap, ◌∙◌, subst, inl, inr, ⊎_elim, arith}
-use Rattle.std.proofs.lemmas.List.{length-map, length-take-le}
+use Rattle.std.proofs.Common.{◌≡◌, ◌<◌, true, length, sym, ap, ◌∙◌, subst, inl, inr, ⊎_elim}
+use Rattle.std.proofs.lemmas.List.{length-map}
 use Rattle.std.proofs.lemmas.Result.{err_from_is_err_and}
-use Rattle.mojette.specs.declared.direction.Record.{Record}
 use Rattle.mojette.specs.Faults.{refusal_of}
 use Rattle.mojette.specs.Meaning.{shape_of, side_ok, sides_verdict}
 use Rattle.plan.proofs.Layouts.{wrong_size, wrong_number}
@@ -25,7 +24,3 @@ returns-then-count-lt1 g c =
     (subst (λ n. side_ok n ≡ true) (c.in_ok-size.ensures.value.0 ∙ ap (λ s. s.columns) same) size.columns_ok)
     (subst (λ n. side_ok n ≡ true) (c.in_ok-size.ensures.value.1 ∙ ap (λ s. s.rows) same) size.rows_ok)
     (⊎_elim (λ few. inl (subst (λ n. n < 1) (sym number) few)) (λ many. inr (subst (λ n. 16 < n) (sym number) many.1)) c.then-count-lt1.either)
-
--- As many records as places are asked for.
-count : (n k : ℕ) (xs : List Record) → k ≡ length (take n xs) → length xs ≡ 16 → n ≤ 16 → k ≡ n
-count n k xs l e h = l ∙ length-take-le n xs (omega arith)
