@@ -11,7 +11,9 @@ const MOST_OUTPUT: usize = 65_536;
 fn run(rt: &HostRuntime) -> anyhow::Result<()> {
     let mut text = Vec::new(rt.alloc());
     // One byte more than may be, so that a longer input is told.
-    rt.stdin().take(MOST_BYTES as u64 + 1).read_to_end(&mut text)?;
+    rt.stdin()
+        .take(MOST_BYTES as u64 + 1)
+        .read_to_end(&mut text)?;
     let mut out = [0; MOST_OUTPUT];
     match answer(&text, &mut out) {
         Ok(len) => rt.stdout().write_all(&out[..len])?,
