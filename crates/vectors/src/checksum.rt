@@ -20,7 +20,7 @@ impl Checksum {
     }
 
     // Takes cells in, by their numbers.
-    pub fn add<I: Iterator<Item = u64>>(&mut self, numbers: I)
+    pub(crate) fn add<I: Iterator<Item = u64>>(&mut self, numbers: I)
         requires { I.can_next numbers × IsFinite (I.remaining numbers) }
     {
         for number in numbers {

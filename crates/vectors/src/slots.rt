@@ -45,7 +45,7 @@ fn close(rt: &impl Abort, slot: Option<Grant>) {
 }
 
 // Puts a grant into an empty slot.
-pub fn fill(slot: &mut Option<Grant>, grant: Grant)
+pub(crate) fn fill(slot: &mut Option<Grant>, grant: Grant)
     requires { slot.old ≡ None }
 {
     match slot.replace(grant) {
