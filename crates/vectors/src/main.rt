@@ -13,7 +13,8 @@ mod stores;
 mod two;
 mod words;
 
-use crate::slots::Slots;
+use crate::slots::{Slots, spare_tile};
+use anyhow::Context;
 use std::io::{BufRead, BufReader};
 
 fn run(rt: &HostRuntime, slots: &mut Slots) -> anyhow::Result<()> {
@@ -25,8 +26,9 @@ fn run(rt: &HostRuntime, slots: &mut Slots) -> anyhow::Result<()> {
 }
 
 fn main(rt: HostRuntime) -> anyhow::Result<()> {
+    let spare = spare_tile().context("no spare tile")?;
     let mut slots = Slots::empty();
     let done = run(&rt, &mut slots);
-    slots.close(&rt);
+    slots.close(spare);
     done
 }

@@ -1,13 +1,37 @@
 // The slots in which workers keep their grants.
-ghost use Rattle.std.specs.Prelude.{◌≡◌, None};
+ghost use Rattle.std.specs.Prelude.{◌≡◌, ◌<◌, None};
+ghost use Rattle.mojette.specs.Meaning.{bins_of};
+ghost use Rattle.plan.specs.Shapes.{shape};
 
 use anyhow::Context;
-use std::process::Abort;
-use tile::Grant;
+use mojette::Record;
+use plan::Plan;
+use samples::SumWord;
+use source::Rack;
+use tile::{Grant, Peeling, open};
 
-// Four slots. A grant cannot be let go, so that they are emptied by calls, and closed in the end.
+// A grant that a worker holds, and the plan on which it was granted.
+pub struct Held {
+    pub grant: Grant,
+    pub plan: Plan,
+    ghost inside: { grant.position < bins_of (shape plan) },
+}
+
+impl Held {
+    // On the plan of its take a grant can always be given back, to any tile.
+    fn give_back(self, tile: Peeling) -> Peeling {
+        let Held { grant, plan } = self;
+        let mut queue = [0; 65_536];
+        match tile.give_back(grant, &plan, &mut queue[..plan.total()]) {
+            Ok(tile) => tile,
+            Err(_held) => unreachable(),
+        }
+    }
+}
+
+// Four slots. A grant cannot be let go, so that they are emptied by calls, and what is left is given back in the end.
 pub struct Slots {
-    cells: [Option<Grant>; 4],
+    cells: [Option<Held>; 4],
 }
 
 impl Slots {
@@ -17,7 +41,7 @@ impl Slots {
         }
     }
 
-    pub fn at(&mut self, slot: usize) -> anyhow::Result<&mut Option<Grant>> {
+    pub fn at(&mut self, slot: usize) -> anyhow::Result<&mut Option<Held>> {
         self.cells.get_mut(slot).context("no such slot")
     }
 
@@ -25,30 +49,52 @@ impl Slots {
         self.cells.iter().all(|slot| slot.is_none())
     }
 
-    pub fn close(self, rt: &impl Abort) {
+    // Gives what is left back to a tile.
+    pub fn close(self, tile: Peeling) {
         let Slots {
             cells: [first, second, third, fourth],
         } = self;
-        close(rt, first);
-        close(rt, second);
-        close(rt, third);
-        close(rt, fourth);
+        let tile = given_back(first, tile);
+        let tile = given_back(second, tile);
+        let tile = given_back(third, tile);
+        given_back(fourth, tile);
     }
 }
 
-// The cases leave no grant; where one is left, there is no tile to take it.
-fn close(rt: &impl Abort, slot: Option<Grant>) {
+fn given_back(slot: Option<Held>, tile: Peeling) -> Peeling {
     match slot {
-        None => {}
-        Some(_held) => panic!(rt; "a grant is left"),
+        None => tile,
+        Some(held) => held.give_back(tile),
     }
+}
+
+// A tile of one pixel that is being peeled. No case asks it anything.
+pub fn spare_tile() -> Option<Peeling> {
+    let zero = SumWord { value: 0 };
+    let records = [Record::new(0, 1, 0)];
+    let run = [zero];
+    let rack = Rack::new(1, 1, &records, &run).ok()?;
+    let mut plan = Plan::fresh();
+    let mut sums = [zero];
+    let tile = open(&rack, &mut plan).ok()?;
+    let tile = tile.load(&rack, &plan, &mut sums).ok()?;
+    let (mut picture, mut marks, mut counts, mut queue) = ([zero], [0], [0], [0]);
+    tile.seal(
+        &plan,
+        &mut picture,
+        &mut marks,
+        &mut sums,
+        &mut counts,
+        &mut queue,
+    )
+    .ok()
 }
 
 // Puts a grant into an empty slot.
-pub(crate) fn fill(slot: &mut Option<Grant>, grant: Grant)
+pub(crate) fn fill(slot: &mut Option<Held>, held: Held)
     requires { slot.old ≡ None }
 {
-    match slot.replace(grant) {
+    match slot.replace(held) {
         None => {}
         Some(_held) => unreachable(),
     }

@@ -1,9 +1,11 @@
 // A tile between two calls, and each call on it.
-ghost use Rattle.std.specs.Prelude.{◌≡◌, None};
+ghost use Rattle.std.specs.Prelude.{◌≡◌, ◌<◌, None};
+ghost use Rattle.mojette.specs.Meaning.{bins_of};
+ghost use Rattle.plan.specs.Shapes.{shape};
 
 use crate::checksum::Checksum;
 use crate::shows::Failure;
-use crate::slots::fill;
+use crate::slots::{Held, fill};
 use mojette::Fault;
 use plan::Plan;
 use samples::Coded;
@@ -99,12 +101,7 @@ impl Stage {
         }
     }
 
-    pub fn take<K: Coded>(
-        self,
-        plan: &Plan,
-        tables: Tables<K>,
-        slot: &mut Option<Grant>,
-    ) -> Played {
+    pub fn take<K: Coded>(self, plan: &Plan, tables: Tables<K>, slot: &mut Option<Held>) -> Played {
         let Stage::Peeling(tile) = self else {
             return misplaced("not peeling");
         };
@@ -114,7 +111,8 @@ impl Stage {
         match tile.take(plan, tables.queue) {
             Ok((tile, grant)) => {
                 let position = grant.position();
-                fill(slot, grant);
+                let plan = *plan;
+                fill(slot, Held { grant, plan });
                 (Stage::Peeling(tile), Ok(Answer::Granted(position)))
             }
             Err(refusal) => refused(Stage::Peeling(refusal.back), refusal.fault),
@@ -125,12 +123,12 @@ impl Stage {
         self,
         plan: &Plan,
         tables: Tables<K>,
-        slot: &mut Option<Grant>,
+        slot: &mut Option<Held>,
     ) -> Played {
         let Stage::Peeling(tile) = self else {
             return misplaced("not peeling");
         };
-        let Some(grant) = slot.take() else {
+        let Some(Held { grant, plan: own }) = slot.take() else {
             return misplaced("the slot is empty");
         };
         let Tables {
@@ -143,7 +141,7 @@ impl Stage {
         let settled = tile.settle(grant, plan, picture, marks, sums, counts, queue);
         match settled {
             Ok((tile, (cell, left))) => (Stage::Peeling(tile), Ok(Answer::Settled(cell, left))),
-            Err(refusal) => kept(refusal, slot),
+            Err(refusal) => kept(refusal, own, slot),
         }
     }
 
@@ -151,17 +149,17 @@ impl Stage {
         self,
         plan: &Plan,
         tables: Tables<K>,
-        slot: &mut Option<Grant>,
+        slot: &mut Option<Held>,
     ) -> Played {
         let Stage::Peeling(tile) = self else {
             return misplaced("not peeling");
         };
-        let Some(grant) = slot.take() else {
+        let Some(Held { grant, plan: own }) = slot.take() else {
             return misplaced("the slot is empty");
         };
         match tile.give_back(grant, plan, tables.queue) {
             Ok(tile) => (Stage::Peeling(tile), Ok(Answer::Done)),
-            Err(refusal) => kept(refusal, slot),
+            Err(refusal) => kept(refusal, own, slot),
         }
     }
 
@@ -193,13 +191,14 @@ impl Stage {
 }
 
 // Refused, the grant goes back to its slot.
-fn kept(refusal: Refused<(Peeling, Grant)>, slot: &mut Option<Grant>) -> Played
-    requires { slot.old ≡ None }
+fn kept(refusal: Refused<(Peeling, Grant)>, plan: Plan, slot: &mut Option<Held>) -> Played
+    requires inside { refusal.back.1.position < bins_of (shape plan) }
+    requires empty { slot.old ≡ None }
 {
     let Refused {
         back: (tile, grant),
         fault,
     } = refusal;
-    fill(slot, grant);
+    fill(slot, Held { grant, plan });
     refused(Stage::Peeling(tile), fault)
 }
