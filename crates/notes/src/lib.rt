@@ -1,0 +1,8 @@
+// Notes of the missing pixels of bins: so the last one of a bin is known without a search.
+#![tactic(auto)]
+
+pub mod cells;
+pub mod impls;
+pub mod note;
+
+pub use note::Note;
