@@ -11,3 +11,4 @@ pub mod Sealing
 pub mod Lives
 pub mod Outcome
 pub mod Worked
+pub mod Turning
