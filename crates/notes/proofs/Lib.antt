@@ -1,3 +1,4 @@
 pub mod Counted
 pub mod Twins
 pub mod Turns
+pub mod Beyond

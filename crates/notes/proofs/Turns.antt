@@ -2,11 +2,12 @@
 use Rattle.std.proofs.Common.{◌≡◌, ℕ, zero, suc, ◌<◌, ◌≤◌, List, ◌∷◌, get_or, sym, refl, ap, ◌∙◌, subst, subst₂, arith}
 use Rattle.samples.specs.declared.kind.Kind.{Ghosts as Operations}
 use Rattle.mojette.specs.Meaning.{Shape, pixels_of, bins_of}
+use Rattle.peeling.specs.Beside.{Beside}
 use Rattle.peeling.specs.History.{History, took, settled}
 use Rattle.peeling.specs.Law.{Run}
 use Rattle.peeling.specs.Steps.{World, most, with_state, taken, spent, take_answers, none_waits, grants, peeled, front, take, settle, seal}
 use Rattle.peeling.proofs.Alone.{NoneOut, front_inside, front_granted, taken_run, turned_run, turned_none_out}
-use Rattle.peeling.proofs.Beside.{Beside, take_beside, settle_beside}
+use Rattle.peeling.proofs.Beside.{take_beside, settle_beside}
 use Rattle.peeling.proofs.Invariant.{Kept}
 use Rattle.peeling.proofs.Outcome.{run_kept}
 use Rattle.peeling.proofs.Rests.{noted}
@@ -18,14 +19,9 @@ use Rattle.law.specs.Turns.{turn}
 use Rattle.law.proofs.Turning.{turn_is, turn_none}
 use Rattle.notes.specs.declared.note.Note.{Note}
 use Rattle.notes.specs.Notes.{notes, note_of_cell}
-use Rattle.notes.proofs.Twins.{Follows, with_counts}
+use Rattle.notes.specs.Twins.{with_counts, Follows, Twins}
+use Rattle.notes.proofs.Beyond.{Beyond, settle_beyond}
 
--- A world of samples, and beside it a run of the notes of its pixels, with no grant out.
-pub record Twins {S : Type 0} (s : Shape) (w : World S) (t : World Note) : Type 0 where
-  pub beside : Beside w t
-  pub history : History
-  pub run : Run notes (incidence s) (noted notes (incidence s) note_of_cell) history t
-  pub none_out : NoneOut history
 
 module _ {S : Type 0} (K : Operations S) (s : Shape) (fits : bins_of s ≤ most) (w : World S) (t : World Note) (twins : Twins s w t) where
   kept : Kept notes (incidence s) (noted notes (incidence s) note_of_cell) twins.history t
@@ -114,3 +110,6 @@ module _ {S : Type 0} (K : Operations S) (s : Shape) (fits : bins_of s ≤ most)
         run = turned_run notes (incidence s) fits _ twins.history t twins.run some_t;
         none_out = turned_none_out notes (incidence s) fits _ twins.history t twins.run some_t twins.none_out;
       })
+
+      pub turned_beyond : Beyond (bins_of s) w.counts (turn K s w).counts
+      turned_beyond = subst (λ x. Beyond (bins_of s) w.counts x.counts) (sym turned_w) (settle_beyond K (incidence s) (front (bins_of s) w.state w.queue) (take K (incidence s) w))

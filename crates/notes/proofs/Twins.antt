@@ -1,4 +1,4 @@
--- A peel of samples, and beside it the peel of the notes of the same pixels: the second tells what the first would have to search for.
+-- The peel of the notes tells what the peel of the samples beside it would have to search for.
 use Rattle.std.proofs.Common.{◌≡◌, ℕ, zero, suc, ◌+◌, ◌-◌, ◌<◌, ◌≤◌, Bool, true, false, cond, ◌&&◌, eqb, List, length, get_or, set, sym, refl, ap, ◌∙◌, subst, subst₂, arith}
 use Rattle.std.proofs.lemmas.Bool.{cond-true, cond-false, eq-eqb, ne_eqb}
 use Rattle.samples.specs.declared.kind.Kind.{Ghosts as Operations}
@@ -9,7 +9,7 @@ use Rattle.peeling.specs.History.{History}
 use Rattle.peeling.specs.Law.{Run}
 use Rattle.peeling.specs.Steps.{World, most, append, lowered, take_off, take_off_all, placed, find, open_in, peeled, front, take, settle}
 use Rattle.peeling.proofs.Alone.{NoneOut, counts_told, number_told, Last, last, front_inside, front_granted, taken_run, turned_run, turned_none_out}
-use Rattle.peeling.proofs.Beside.{Beside, take_off_beside, take_off_all_beside, placed_beside, peeled_beside, take_beside, settle_beside, ahead}
+use Rattle.peeling.proofs.Beside.{take_off_beside, take_off_all_beside, placed_beside, peeled_beside, take_beside, settle_beside, ahead}
 use Rattle.peeling.proofs.Invariant.{Kept}
 use Rattle.peeling.proofs.Outcome.{run_kept}
 use Rattle.peeling.proofs.Rests.{noted}
@@ -21,24 +21,9 @@ use Rattle.law.proofs.Turning.{turn_is, turn_none}
 use Rattle.notes.specs.declared.note.Note.{Note}
 use Rattle.notes.specs.Words.{note_plus, note_inverse, note_zero}
 use Rattle.notes.specs.Notes.{notes, note_of_cell, pixels_noted, cell_noted}
+use Rattle.notes.specs.Twins.{with_counts, Follows, Tells, Telling}
 use Rattle.notes.specs.Offs.{summed_off, note_left, noted_off}
 use Rattle.notes.proofs.Counted.{pixels_less, pixels_of_cell, cell_of_cell, pixels_sum}
-
--- the world w with the counts c
-abbrev pub with_counts : {S : Type 0} → List ℕ → World S → World S
-with_counts c w = record { state = w.state; picture = w.picture; marks = w.marks; sums = w.sums; counts = c; queue = w.queue }
-
--- What the code has follows the world w but for the counts, and has the sums of t for its notes.
-pub record Follows {S : Type 0} (r : World S × List Note) (w : World S) (t : World Note) : Type 0 where
-  pub world : r.0 ≡ with_counts r.0.counts w
-  pub notes_are : r.1 ≡ t.sums
-  pub beside : Beside w t
-
--- The note of bin b tells its count, and u is the note of one of its pixels.
-pub record Tells (t : World Note) (u : Note) (b : ℕ) : Type 0 where
-  pub one : pixels_noted u ≡ 1
-  pub count : pixels_noted (get_or t.sums b note_zero) ≡ get_or t.counts b 0
-  pub some : 1 ≤ get_or t.counts b 0
 
 module _ {S : Type 0} (K : Operations S) (s : Shape) where
   abbrev T : ℕ
@@ -77,12 +62,8 @@ module _ {S : Type 0} (K : Operations S) (s : Shape) where
       }
 
   -- All bins of a pixel ---------------------------------------------------------------------------------------------------
-  -- The notes of the bins of the pixel in cell c tell their counts, and u is its note.
-  abbrev pub Telling : World Note → Note → ℕ → Type 0
-  Telling t u c = (b : ℕ) → b < bins_of s → (incidence s).lies c b ≡ true → Tells t u b
-
   -- so it is ahead of the loop
-  pub tells_ahead : (t : World Note) (u : Note) (c : ℕ) → Telling t u c → (k b : ℕ) → k ≤ b → b < bins_of s → (incidence s).lies c b ≡ true →
+  pub tells_ahead : (t : World Note) (u : Note) (c : ℕ) → Telling s t u c → (k b : ℕ) → k ≤ b → b < bins_of s → (incidence s).lies c b ≡ true →
       Tells (take_off_all notes (incidence s) c u k t) u b
   tells_ahead t u c tells k b past l on =
       let same = ahead notes (incidence s) c u k b t past in
@@ -162,7 +143,7 @@ module _ {S : Type 0} (K : Operations S) (s : Shape) where
         its_note = ap (λ x. get_or x b note_zero) (sym f.notes_are)
 
         -- the bins of that pixel
-        pub its_telling : (v : S) → Telling (placed cell (get_or r.1 b note_zero) t) (get_or r.1 b note_zero) cell
+        pub its_telling : (v : S) → Telling s (placed cell (get_or r.1 b note_zero) t) (get_or r.1 b note_zero) cell
         unfolding placed
         its_telling v p k on = record {
           one = one;
@@ -182,3 +163,12 @@ module _ {S : Type 0} (K : Operations S) (s : Shape) where
             let t_found : peeled notes (incidence s) b t ≡ find notes (incidence s) cell (get_or r.1 b note_zero) t =
             cond-true _ _ _ (eq-eqb _ 1 (same_number ∙ number_is ∙ one)) ∙ (λ i. find notes (incidence s) (least_in_t i) (its_note i) t) in
             subst₂ (Follows r') (sym w_found) (sym t_found) g
+
+-- The counts are not looked at, and stay.
+pub off_counts : {S : Type 0} (K : Operations S) (T : ℕ) (v : S) (u : Note) (b : ℕ) (r : World S × List Note) → (noted_off K T v u b r).0.counts ≡ r.0.counts
+unfolding noted_off append
+off_counts K T v u b r = go (eqb (pixels_noted (note_left K u b r.1)) 1)
+  where
+    go : (x : Bool) → (cond x (append T b (summed_off K v b r.0)) (summed_off K v b r.0)).counts ≡ r.0.counts
+    go true = refl
+    go false = refl

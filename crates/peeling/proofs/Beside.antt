@@ -3,16 +3,10 @@ use Rattle.std.proofs.Common.{◌≡◌, ℕ, zero, suc, ◌-◌, ◌<◌, ◌�
 use Rattle.std.proofs.lemmas.List.{get_or-set_other}
 use Rattle.samples.specs.declared.kind.Kind.{Ghosts as Operations}
 use Rattle.peeling.specs.declared.state.State.{State}
+use Rattle.peeling.specs.Beside.{Beside}
 use Rattle.peeling.specs.Counting.{number, least}
 use Rattle.peeling.specs.Incidence.{Incidence}
 use Rattle.peeling.specs.Steps.{World, filled, with_state, taken, spent, one_found, appended, queue_with, append, queue_singles, lowered, take_off, take_off_all, placed, find, open_in, zeroed, seal, peeled, take, settle}
-
--- Two worlds with the same state, marks, counts and queue.
-pub record Beside {A B : Type 0} (w : World A) (t : World B) : Type 0 where
-  pub state : w.state ≡ t.state
-  pub marks : w.marks ≡ t.marks
-  pub counts : w.counts ≡ t.counts
-  pub queue : w.queue ≡ t.queue
 
 module _ {A B : Type 0} where
   either : (x y : Bool) → x ≡ y → {a c : World A} {b d : World B} → Beside a b → Beside c d → Beside (cond x a c) (cond y b d)

@@ -1,0 +1,78 @@
+// One worker's settles on a tile of which each bin has a note, which tells its last missing pixel. Written once for every kind of sample.
+ghost use Rattle.std.specs.Prelude.{◌≡◌, ℕ, ◌<◌, ◌≤◌, length, slice_index_or};
+ghost use Rattle.mojette.specs.Meaning.{pixels_of, bins_of};
+ghost use Rattle.plan.specs.Shapes.{shape};
+ghost use Rattle.law.specs.Life.{LongEnough};
+ghost use Rattle.law.specs.Positions.{incidence};
+ghost use Rattle.law.specs.Steps.{world_of};
+ghost use Rattle.walk.specs.Finding.{OfTile};
+ghost use Rattle.peeling.specs.Steps.{World, take_off_all, peeled};
+ghost use Rattle.notes.specs.Notes.{notes as of_notes, pixels_noted};
+ghost use Rattle.notes.specs.Offs.{noted_off};
+ghost use Rattle.notes.specs.Twins.{Follows, Telling, Twins};
+ghost use Rattle.tile.specs.Worlds.{StillLent, held};
+
+use crate::lent::Tables;
+use crate::ring::append;
+use notes::Note;
+use peeling::State;
+use plan::Plan;
+use samples::{Kind, minus};
+use walk::{Pixel, bin_at};
+
+// Takes v off the sum of the bin at one position, and a pixel's note off its note; it is appended where one pixel is left. Plan, state and tables are
+// lent one by one, as for a settle.
+#[tactic(auto, using(std::proofs::lemmas::Bool::Decides::nat_tests), unfolding(notes::specs::Offs::noted_off, peeling::specs::Steps::append))]
+fn take_off_noted<K: Kind>(
+    plan: &Plan,
+    v: K,
+    note: Note,
+    at: usize,
+    state: &mut State,
+    tables: &mut Tables<K>,
+    notes: &mut [Note],
+)
+    requires at { at < bins_of (shape plan.now) }
+    requires long { LongEnough (shape plan.now) (held tables.old) }
+    requires noted { bins_of (shape plan.now) ≤ length notes.old }
+    ensures lent { StillLent tables.old tables.new }
+    ensures noted { length notes.new ≡ length notes.old }
+    ensures off { (world_of state.new (held tables.new), notes.new) ≡ noted_off K.Kind (bins_of (shape plan.now)) v note at (world_of state.old (held tables.old), notes.old) }
+{
+    tables.sums[at] = minus(tables.sums[at], v);
+    let left = minus(notes[at], note);
+    notes[at] = left;
+    if left.pixels() == 1 {
+        append(state, tables.queue, plan.total(), at);
+    }
+}
+
+// Takes v and the note off the bin of a pixel in each whole place, in order. (Lent one by one, as for a settle.)
+fn take_off_all_noted<K: Kind>(
+    plan: &Plan,
+    pixel: Pixel,
+    v: K,
+    note: Note,
+    state: &mut State,
+    tables: &mut Tables<K>,
+    notes: &mut [Note],
+)
+    requires pixel { OfTile (shape plan.now).P (shape plan.now).Q pixel }
+    requires long { LongEnough (shape plan.now) (held tables.old) }
+    requires noted { bins_of (shape plan.now) ≤ length notes.old }
+    ensures lent { StillLent tables.old tables.new }
+    ensures noted { length notes.new ≡ length notes.old }
+    ensures counts { tables.new.counts.now ≡ tables.old.counts.now }
+    ensures follows { (w : World K) (t : World Note) → Follows (world_of state.old (held tables.old), notes.old) w t → Telling (shape plan.now) t note pixel.cell → Follows (world_of state.new (held tables.new), notes.new) (take_off_all K.Kind (incidence (shape plan.now)) pixel.cell v (bins_of (shape plan.now)) w) (take_off_all of_notes (incidence (shape plan.now)) pixel.cell note (bins_of (shape plan.now)) t) }
+{
+    let places = plan.places();
+    let columns = plan.columns();
+    let rows = plan.rows();
+    // With their index, one of the forms that docs/DECISIONS.md names.
+    for (_i, place) in places.iter().enumerate() {
+        if place.is_whole() {
+            let at = bin_at(columns, rows, place, pixel);
+            take_off_noted(plan, v, note, at, state, tables, notes);
+        }
+    }
+}
