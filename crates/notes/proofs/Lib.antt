@@ -1,1 +1,3 @@
 pub mod Counted
+pub mod Most
+pub mod Tables
