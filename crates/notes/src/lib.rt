@@ -4,5 +4,7 @@
 pub mod cells;
 pub mod impls;
 pub mod note;
+pub mod noting;
 
 pub use note::Note;
+pub use noting::{MOST_BINS, note_bins};

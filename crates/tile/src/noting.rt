@@ -6,8 +6,11 @@ ghost use Rattle.law.specs.Life.{LongEnough};
 ghost use Rattle.law.specs.Positions.{incidence};
 ghost use Rattle.law.specs.Steps.{world_of};
 ghost use Rattle.walk.specs.Finding.{OfTile};
+ghost use Rattle.notes.specs.Words.{note_zero};
+ghost use Rattle.peeling.specs.History.{History};
+ghost use Rattle.peeling.specs.Law.{Run};
 ghost use Rattle.peeling.specs.Steps.{World, take_off_all, peeled};
-ghost use Rattle.notes.specs.Notes.{notes as of_notes, pixels_noted};
+ghost use Rattle.notes.specs.Notes.{notes as of_notes, note_of_bin, pixels_noted, cell_noted};
 ghost use Rattle.notes.specs.Offs.{noted_off};
 ghost use Rattle.notes.specs.Twins.{Follows, Telling, Twins};
 ghost use Rattle.tile.specs.Worlds.{StillLent, held};
@@ -75,4 +78,39 @@ fn take_off_all_noted<K: Kind>(
             take_off_noted(plan, v, note, at, state, tables, notes);
         }
     }
+}
+
+// Where the note of the bin at a position tells that one pixel is missing, that pixel takes the bin's sum. (Lent one by one, as for a settle.)
+fn peel_noted<K: Kind>(
+    plan: &Plan,
+    at: usize,
+    state: &mut State,
+    tables: &mut Tables<K>,
+    notes: &mut [Note],
+)
+    requires at { at < bins_of (shape plan.now) }
+    requires long { LongEnough (shape plan.now) (held tables.old) }
+    requires noted { bins_of (shape plan.now) ≤ length notes.old }
+    requires cell { pixels_noted (slice_index_or notes.old at note_zero) ≡ 1 → cell_noted (slice_index_or notes.old at note_zero) < pixels_of (shape plan.now) }
+    ensures lent { StillLent tables.old tables.new }
+    ensures noted { length notes.new ≡ length notes.old }
+    ensures counts { tables.new.counts.now ≡ tables.old.counts.now }
+    ensures follows { (h : History) (w : World K) (t : World Note) → Follows (world_of state.old (held tables.old), notes.old) w t → Run of_notes (incidence (shape plan.now)) (note_of_bin (shape plan.now)) h t → Follows (world_of state.new (held tables.new), notes.new) (peeled K.Kind (incidence (shape plan.now)) at w) (peeled of_notes (incidence (shape plan.now)) at t) }
+{
+    let note = notes[at];
+    if note.pixels() != 1 {
+        return;
+    }
+    let cell = note.cell();
+    tables.marks[cell] = 1;
+    let v = tables.sums[at];
+    tables.picture[cell] = v;
+    state.left = state.left.saturating_sub(1);
+    let columns = plan.columns();
+    let pixel = Pixel {
+        column: cell % columns,
+        row: cell / columns,
+        cell,
+    };
+    take_off_all_noted(plan, pixel, v, note, state, tables, notes);
 }
