@@ -5,6 +5,8 @@ pub mod cells;
 pub mod impls;
 pub mod note;
 pub mod noting;
+#[cfg(test)]
+mod tests;
 
 pub use note::Note;
 pub use noting::{MOST_BINS, note_bins};
