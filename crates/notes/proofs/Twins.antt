@@ -164,6 +164,19 @@ module _ {S : Type 0} (K : Operations S) (s : Shape) where
             cond-true _ _ _ (eq-eqb _ 1 (same_number ∙ number_is ∙ one)) ∙ (λ i. find notes (incidence s) (least_in_t i) (its_note i) t) in
             subst₂ (Follows r') (sym w_found) (sym t_found) g
 
+        -- The pixel, its value and its note, as the code has them, and what is left when they are taken off the pixel's bins.
+        pub found_follows : (c : ℕ) (v : S) (u : Note) → c ≡ cell_noted (get_or r.1 b note_zero) → v ≡ get_or r.0.sums b K.zero → u ≡ get_or r.1 b note_zero →
+            (r' : World S × List Note) →
+            ((x : World S) (y : World Note) → Follows (placed c v r.0, r.1) x y → Telling s y u c →
+            Follows r' (take_off_all K (incidence s) c v (bins_of s) x) (take_off_all notes (incidence s) c u (bins_of s) y)) →
+            Follows r' (peeled K (incidence s) b w) (peeled notes (incidence s) b t)
+        found_follows c v u c_is v_is u_is r' goes =
+            let tells : Telling s (placed c u t) u c = subst₂ (λ x y. Telling s (placed x y t) y x) (sym c_is) (sym u_is) (its_telling v) in
+            one_found r' (subst (λ y. Follows r' (take_off_all K (incidence s) cell y (bins_of s) (placed cell y w))
+            (take_off_all notes (incidence s) cell (get_or r.1 b note_zero) (bins_of s) (placed cell (get_or r.1 b note_zero) t))) v_is
+            (subst₂ (λ x y. Follows r' (take_off_all K (incidence s) x v (bins_of s) (placed x v w)) (take_off_all notes (incidence s) x y (bins_of s) (placed x y t))) c_is u_is
+            (goes (placed c v w) (placed c u t) (placed_follows c v u r w t f) tells)))
+
 -- The counts are not looked at, and stay.
 pub off_counts : {S : Type 0} (K : Operations S) (T : ℕ) (v : S) (u : Note) (b : ℕ) (r : World S × List Note) → (noted_off K T v u b r).0.counts ≡ r.0.counts
 unfolding noted_off append
