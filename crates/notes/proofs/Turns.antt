@@ -1,5 +1,5 @@
 -- One turn of both peels.
-use Rattle.std.proofs.Common.{◌≡◌, ℕ, zero, suc, ◌<◌, ◌≤◌, List, ◌∷◌, get_or, sym, refl, ap, ◌∙◌, subst, subst₂, arith}
+use Rattle.std.proofs.Common.{◌≡◌, ℕ, zero, suc, ◌<◌, ◌≤◌, List, ◌∷◌, length, get_or, sym, refl, ap, ◌∙◌, subst, subst₂, arith}
 use Rattle.samples.specs.declared.kind.Kind.{Ghosts as Operations}
 use Rattle.mojette.specs.Meaning.{Shape, pixels_of, bins_of}
 use Rattle.peeling.specs.Beside.{Beside}
@@ -113,3 +113,15 @@ module _ {S : Type 0} (K : Operations S) (s : Shape) (fits : bins_of s ≤ most)
 
       pub turned_beyond : Beyond (bins_of s) w.counts (turn K s w).counts
       turned_beyond = subst (λ x. Beyond (bins_of s) w.counts x.counts) (sym turned_w) (settle_beyond K (incidence s) (front (bins_of s) w.state w.queue) (take K (incidence s) w))
+
+-- Where the code's tables are long enough, so are those of the world that they follow.
+pub follows_long : {S : Type 0} (s : Shape) (fits : bins_of s ≤ most) (r : World S × List Note) (w : World S) (t : World Note) → Follows r w t → Twins s w t →
+    LongEnough s (tables_of r.0) → LongEnough s (tables_of w)
+follows_long s fits r w t f twins long = record {
+  picture = subst (λ x. pixels_of s ≤ length x.picture) f.world long.picture;
+  marks = subst (λ x. pixels_of s ≤ length x.marks) f.world long.marks;
+  sums = subst (λ x. bins_of s ≤ length x.sums) f.world long.sums;
+  counts = subst (λ x. bins_of s ≤ length x) (sym f.beside.counts)
+      (run_kept notes (incidence s) fits (noted notes (incidence s) note_of_cell) twins.run).marked.counts_long;
+  queue = subst (λ x. bins_of s ≤ length x.queue) f.world long.queue;
+}

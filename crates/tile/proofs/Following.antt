@@ -1,18 +1,27 @@
 -- One turn of the loop that takes a pixel and its note off its bins, place after place.
-use Rattle.std.proofs.Common.{◌≡◌, ℕ, ◌+◌, ◌<◌, ◌==◌, false, List, length, refl, sym, ap, ◌∙◌, subst, subst₂, arith}
+use Rattle.std.proofs.Common.{◌≡◌, ℕ, ◌+◌, ◌<◌, ◌≤◌, ◌==◌, false, List, length, get_or, refl, sym, ap, ◌∙◌, subst, subst₂, arith}
 use Rattle.samples.specs.declared.kind.Kind.{Ghosts as Operations}
-use Rattle.mojette.specs.Meaning.{bins_of}
-use Rattle.peeling.specs.Steps.{World, take_off, take_off_all}
+use Rattle.mojette.specs.Meaning.{pixels_of, bins_of}
+use Rattle.peeling.specs.declared.state.State.{State}
+use Rattle.peeling.specs.History.{History}
+use Rattle.peeling.specs.Law.{Run}
+use Rattle.peeling.specs.Steps.{World, taken, spent, front, take_off, take_off_all, peeled, take}
 use Rattle.plan.specs.declared.plan.Plan.{Plan}
 use Rattle.plan.specs.Laid.{place_at}
 use Rattle.plan.specs.Shapes.{shape, places_of}
+use Rattle.law.specs.Life.{LongEnough}
 use Rattle.law.specs.Positions.{incidence}
+use Rattle.law.specs.Steps.{Tables, world_of, tables_of}
+use Rattle.law.specs.Turns.{turn}
 use Rattle.walk.specs.Lying.{starts, Lies}
 use Rattle.notes.specs.declared.note.Note.{Note}
-use Rattle.notes.specs.Notes.{notes}
+use Rattle.notes.specs.Notes.{notes, note_of_bin, pixels_noted, cell_noted}
+use Rattle.notes.specs.Words.{note_zero}
 use Rattle.notes.specs.Offs.{noted_off}
-use Rattle.notes.specs.Twins.{Follows, Telling}
-use Rattle.notes.proofs.Twins.{off_follows, tells_ahead}
+use Rattle.notes.specs.Twins.{Follows, Telling, Twins}
+use Rattle.notes.proofs.Most.{few_pixels, few_counted}
+use Rattle.notes.proofs.Turns.{inside, run_taken, taken_follows, turned_follows, follows_long}
+use Rattle.notes.proofs.Twins.{off_follows, tells_ahead, cell_inside}
 use Rattle.tile.proofs.Turns.{whole_turn, lost_turn}
 
 module _ {S : Type 0} (K : Operations S) (plan : Plan) (c : ℕ) (v : S) (u : Note) (i : ℕ) (l : i < length (places_of plan))
@@ -37,3 +46,38 @@ module _ {S : Type 0} (K : Operations S) (plan : Plan) (c : ℕ) (v : S) (u : No
   lost_follows lost is =
       subst (λ x. Follows x (take_off_all K (incidence (shape plan)) c v (starts plan (i + 1)) w) (take_off_all notes (incidence (shape plan)) c u (starts plan (i + 1)) t)) (sym is)
       (subst₂ (Follows r) (lost_turn K plan c v w i l _ _ refl lost refl) (lost_turn notes plan c u t i l _ _ refl lost refl) f)
+
+-- One turn, from the state x and the tables y with the notes n, which follow w beside t.
+module _ {S : Type 0} (K : Operations S) (plan : Plan) (x : State) (y : Tables S) (n : List Note) (w : World S) (t : World Note)
+    (f : Follows (world_of x y, n) w t) (twins : Twins (shape plan) w t) (long : LongEnough (shape plan) y) (some : 1 ≤ x.waiting) where
+  long_w : LongEnough (shape plan) (tables_of w)
+  long_w = follows_long (shape plan) (few_counted plan) (world_of x y, n) w t f twins long
+
+  some_w : 0 < w.state.waiting
+  some_w = subst (λ z. 0 < z.state.waiting) f.world some
+
+  module _ (at : ℕ) (at_is : at ≡ front (bins_of (shape plan)) x y.queue) where
+    front_is : front (bins_of (shape plan)) w.state w.queue ≡ at
+    front_is = sym (at_is ∙ ap (λ z. front (bins_of (shape plan)) z.state z.queue) f.world)
+
+    pub at_inside : at < bins_of (shape plan)
+    at_inside = subst (λ k. k < bins_of (shape plan)) front_is (inside K (shape plan) (few_counted plan) w t twins long_w some_w)
+
+    module _ (x' : State) (x_is : x' ≡ taken (bins_of (shape plan)) x) where
+      at_taken : Follows (world_of x' y, n) (take K (incidence (shape plan)) w) (take notes (incidence (shape plan)) t)
+      at_taken = subst (λ z. Follows (world_of z y, n) (take K (incidence (shape plan)) w) (take notes (incidence (shape plan)) t)) (sym x_is)
+          (taken_follows K (shape plan) (few_counted plan) w t twins long_w some_w (world_of x y, n) f)
+
+      pub cell_known : pixels_noted (get_or n at note_zero) ≡ 1 → cell_noted (get_or n at note_zero) < pixels_of (shape plan)
+      cell_known = cell_inside K (shape plan) (few_pixels plan) (few_counted plan) _ _ (run_taken K (shape plan) (few_counted plan) w t twins long_w some_w)
+          (world_of x' y, n) _ at_taken at at_inside
+
+      pub turn_follows : (z z' : State) (y' : Tables S) (n' : List Note) → z' ≡ spent z →
+          ((h : History) (v : World S) (u : World Note) → Follows (world_of x' y, n) v u → Run notes (incidence (shape plan)) (note_of_bin (shape plan)) h u →
+          Follows (world_of z y', n') (peeled K (incidence (shape plan)) at v) (peeled notes (incidence (shape plan)) at u)) →
+          Follows (world_of z' y', n') (turn K (shape plan) w) (turn notes (shape plan) t)
+      turn_follows z z' y' n' z_is peels =
+          subst (λ q. Follows (world_of q y', n') (turn K (shape plan) w) (turn notes (shape plan) t)) (sym z_is)
+          (turned_follows K (shape plan) (few_counted plan) w t twins long_w some_w (world_of z y', n')
+          (subst (λ k. Follows (world_of z y', n') (peeled K (incidence (shape plan)) k (take K (incidence (shape plan)) w)) (peeled notes (incidence (shape plan)) k (take notes (incidence (shape plan)) t)))
+          (sym front_is) (peels _ _ _ at_taken (run_taken K (shape plan) (few_counted plan) w t twins long_w some_w))))

@@ -5,18 +5,19 @@ ghost use Rattle.plan.specs.Shapes.{shape};
 ghost use Rattle.law.specs.Life.{LongEnough};
 ghost use Rattle.law.specs.Positions.{incidence};
 ghost use Rattle.law.specs.Steps.{world_of};
+ghost use Rattle.law.specs.Turns.{turn};
 ghost use Rattle.walk.specs.Finding.{OfTile};
 ghost use Rattle.notes.specs.Words.{note_zero};
 ghost use Rattle.peeling.specs.History.{History};
 ghost use Rattle.peeling.specs.Law.{Run};
-ghost use Rattle.peeling.specs.Steps.{World, take_off_all, peeled};
+ghost use Rattle.peeling.specs.Steps.{World, taken, spent, take_off_all, peeled};
 ghost use Rattle.notes.specs.Notes.{notes as of_notes, note_of_bin, pixels_noted, cell_noted};
 ghost use Rattle.notes.specs.Offs.{noted_off};
 ghost use Rattle.notes.specs.Twins.{Follows, Telling, Twins};
 ghost use Rattle.tile.specs.Worlds.{StillLent, held};
 
 use crate::lent::Tables;
-use crate::ring::append;
+use crate::ring::{append, wrapped};
 use notes::Note;
 use peeling::State;
 use plan::Plan;
@@ -113,4 +114,42 @@ fn peel_noted<K: Kind>(
         cell,
     };
     take_off_all_noted(plan, pixel, v, note, state, tables, notes);
+}
+
+// The first position that waits leaves the ring, and is out.
+#[tactic(auto, using(std::proofs::lemmas::Bool::Decides::nat_tests), unfolding(peeling::specs::Steps::taken))]
+fn pass_first(state: &mut State, bins: usize)
+    requires { (1 ≤ bins) × ((bins < 65536) × (1 ≤ state.old.waiting)) }
+    ensures { state.new ≡ taken bins state.old }
+{
+    state.head = wrapped(state.head as usize + 1, bins) as u32;
+    state.waiting -= 1;
+    state.out = state.out.saturating_add(1);
+}
+
+// What is out is settled.
+#[tactic(auto, using(std::proofs::lemmas::Bool::Decides::nat_tests), unfolding(peeling::specs::Steps::spent))]
+fn count_settled(state: &mut State)
+    ensures { state.new ≡ spent state.old }
+{
+    state.out = state.out.saturating_sub(1);
+    state.settled = state.settled.saturating_add(1);
+}
+
+// One turn: the first position that waits is taken, and settled. (Lent one by one, as for a settle.)
+fn turn_noted<K: Kind>(plan: &Plan, state: &mut State, tables: &mut Tables<K>, notes: &mut [Note])
+    requires some { 1 ≤ state.old.waiting }
+    requires long { LongEnough (shape plan.now) (held tables.old) }
+    requires noted { bins_of (shape plan.now) ≤ length notes.old }
+    requires twins { (w : World K) × (t : World Note) × Follows (world_of state.old (held tables.old), notes.old) w t × Twins (shape plan.now) w t }
+    ensures lent { StillLent tables.old tables.new }
+    ensures noted { length notes.new ≡ length notes.old }
+    ensures counts { tables.new.counts.now ≡ tables.old.counts.now }
+    ensures follows { (w : World K) (t : World Note) → Follows (world_of state.old (held tables.old), notes.old) w t → Twins (shape plan.now) w t → Follows (world_of state.new (held tables.new), notes.new) (turn K.Kind (shape plan.now) w) (turn of_notes (shape plan.now) t) }
+{
+    let bins = plan.total();
+    let at = tables.queue[wrapped(state.head as usize, bins)] as usize;
+    pass_first(state, bins);
+    peel_noted(plan, at, state, tables, notes);
+    count_settled(state);
 }
