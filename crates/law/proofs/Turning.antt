@@ -1,5 +1,5 @@
 -- A turn on tables that are long enough, past the checks of its calls.
-use Rattle.std.proofs.Common.{◌≡◌, ℕ, ◌<◌, ◌≤◌, false, cond, leb, refl, ◌∙◌}
+use Rattle.std.proofs.Common.{◌≡◌, ℕ, zero, suc, ◌+◌, ◌<◌, false, leb, refl, ap, ◌∙◌, arith}
 use Rattle.std.proofs.lemmas.Bool.{cond-false, lt-leb, le-ltb}
 use Rattle.samples.specs.declared.kind.Kind.{Ghosts as Operations}
 use Rattle.mojette.specs.Meaning.{Shape, bins_of}
@@ -8,7 +8,7 @@ use Rattle.peeling.specs.Steps.{take as peel_take, settle as peel_settle}
 use Rattle.law.specs.Positions.{incidence}
 use Rattle.law.specs.Steps.{tables_of, short_queue, take, settle}
 use Rattle.law.specs.Life.{LongEnough}
-use Rattle.law.specs.Turns.{turn}
+use Rattle.law.specs.Turns.{turn, turns}
 use Rattle.law.proofs.Sealing.{none_short}
 
 module _ {S : Type 0} (K : Operations S) (shape : Shape) (w : World S) (long : LongEnough shape (tables_of w)) where
@@ -26,3 +26,10 @@ module _ {S : Type 0} (K : Operations S) (shape : Shape) (w : World S) (long : L
   turn_is b e l =
       let inside : leb (bins_of shape) b ≡ false = lt-leb _ _ l in
       rw (queue_fits, e, none_short shape (tables_of w) long, inside) refl
+
+-- A turn that changes nothing is the last that does.
+pub at_rest : {S : Type 0} (K : Operations S) (s : Shape) (w : World S) (n k : ℕ) → turn K s (turns K s n w) ≡ turns K s n w → turns K s (k + n) w ≡ turns K s n w
+at_rest K s w n zero still = ap (λ j. turns K s j w) (omega arith)
+at_rest K s w n (suc k) still =
+    let one : suc k + n ≡ suc (k + n) = omega arith in
+    ap (λ j. turns K s j w) one ∙ ap (turn K s) (at_rest K s w n k still) ∙ still

@@ -7,17 +7,13 @@ use Rattle.mojette.specs.Meaning.{Shape, bins_of}
 use Rattle.peeling.specs.Counting.{number, least}
 use Rattle.peeling.specs.Incidence.{Incidence}
 use Rattle.peeling.specs.Steps.{World, filled, append, lowered, take_off, take_off_all, placed, find, open_in, peeled, take, settle}
+use Rattle.notes.specs.Twins.{Beyond}
 use Rattle.peeling.proofs.Loops.{length-filled, get_or-filled}
-
--- ys is as long as xs, and has the same from T on
-pub record Beyond (T : ℕ) (xs ys : List ℕ) : Type 0 where
-  pub size : length ys ≡ length xs
-  pub same : (b : ℕ) → T ≤ b → get_or ys b 0 ≡ get_or xs b 0
 
 pub beyond_refl : (T : ℕ) (xs : List ℕ) → Beyond T xs xs
 beyond_refl T xs = record { size = refl; same = λ b l. refl }
 
-beyond_then : (T : ℕ) (xs ys zs : List ℕ) → Beyond T xs ys → Beyond T ys zs → Beyond T xs zs
+pub beyond_then : (T : ℕ) (xs ys zs : List ℕ) → Beyond T xs ys → Beyond T ys zs → Beyond T xs zs
 beyond_then T xs ys zs p q = record { size = q.size ∙ p.size; same = λ b l. q.same b l ∙ p.same b l }
 
 beyond_set : (T : ℕ) (xs : List ℕ) (k n : ℕ) → k < T → Beyond T xs (set xs k n)

@@ -19,8 +19,8 @@ use Rattle.law.specs.Turns.{turn}
 use Rattle.law.proofs.Turning.{turn_is, turn_none}
 use Rattle.notes.specs.declared.note.Note.{Note}
 use Rattle.notes.specs.Notes.{notes, note_of_cell}
-use Rattle.notes.specs.Twins.{with_counts, Follows, Twins}
-use Rattle.notes.proofs.Beyond.{Beyond, settle_beyond}
+use Rattle.notes.specs.Twins.{with_counts, Follows, Twins, Beyond}
+use Rattle.notes.proofs.Beyond.{settle_beyond}
 
 
 module _ {S : Type 0} (K : Operations S) (s : Shape) (fits : bins_of s ≤ most) (w : World S) (t : World Note) (twins : Twins s w t) where

@@ -1,5 +1,5 @@
 -- A peel of samples, and beside it the peel of the notes of the same pixels.
-use Rattle.std.specs.Prelude.{◌≡◌, ℕ, ◌<◌, ◌≤◌, true, List, slice_index_or}
+use Rattle.std.specs.Prelude.{◌≡◌, ℕ, ◌<◌, ◌≤◌, true, List, length, slice_index_or}
 use Rattle.mojette.specs.Meaning.{Shape, bins_of}
 use Rattle.peeling.specs.Beside.{Beside}
 use Rattle.peeling.specs.History.{History, out}
@@ -36,3 +36,14 @@ pub record Twins {S : Type 0} (s : Shape) (w : World S) (t : World Note) : Type 
   pub history : History
   pub run : Run notes (incidence s) (note_of_bin s) history t
   pub none_out : (b : ℕ) → out history b ≡ 0
+
+-- ys is as long as xs, and has the same from T on
+pub record Beyond (T : ℕ) (xs ys : List ℕ) : Type 0 where
+  pub size : length ys ≡ length xs
+  pub same : (b : ℕ) → T ≤ b → slice_index_or ys b 0 ≡ slice_index_or xs b 0
+
+-- From the world w on r has come to follow w', which has a twin t'. The counts beyond the bins are those of w.
+pub record GoesOn {S : Type 0} (s : Shape) (w : World S) (r : World S × List Note) (w' : World S) (t' : World Note) : Type 0 where
+  pub follows : Follows r w' t'
+  pub twins : Twins s w' t'
+  pub beyond : Beyond (bins_of s) w.counts w'.counts

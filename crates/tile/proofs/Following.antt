@@ -1,5 +1,5 @@
 -- One turn of the loop that takes a pixel and its note off its bins, place after place.
-use Rattle.std.proofs.Common.{◌≡◌, ℕ, ◌+◌, ◌<◌, ◌≤◌, ◌==◌, false, List, length, get_or, refl, sym, ap, ◌∙◌, subst, subst₂, arith}
+use Rattle.std.proofs.Common.{◌≡◌, ℕ, suc, ◌+◌, ◌-◌, ◌<◌, ◌≤◌, ◌==◌, false, List, length, get_or, refl, sym, ap, ◌∙◌, subst, subst₂, arith}
 use Rattle.samples.specs.declared.kind.Kind.{Ghosts as Operations}
 use Rattle.mojette.specs.Meaning.{pixels_of, bins_of}
 use Rattle.peeling.specs.declared.state.State.{State}
@@ -12,16 +12,20 @@ use Rattle.plan.specs.Shapes.{shape, places_of}
 use Rattle.law.specs.Life.{LongEnough}
 use Rattle.law.specs.Positions.{incidence}
 use Rattle.law.specs.Steps.{Tables, world_of, tables_of}
-use Rattle.law.specs.Turns.{turn}
+use Rattle.law.specs.Turns.{turn, turns}
+use Rattle.law.proofs.Turning.{at_rest}
 use Rattle.walk.specs.Lying.{starts, Lies}
 use Rattle.notes.specs.declared.note.Note.{Note}
 use Rattle.notes.specs.Notes.{notes, note_of_bin, pixels_noted, cell_noted}
 use Rattle.notes.specs.Words.{note_zero}
 use Rattle.notes.specs.Offs.{noted_off}
-use Rattle.notes.specs.Twins.{Follows, Telling, Twins}
+use Rattle.notes.specs.Twins.{Follows, Telling, Twins, GoesOn}
+use Rattle.notes.proofs.Beyond.{beyond_then}
 use Rattle.notes.proofs.Most.{few_pixels, few_counted}
-use Rattle.notes.proofs.Turns.{inside, run_taken, taken_follows, turned_follows, follows_long}
+use Rattle.notes.proofs.Turns.{inside, both_rest, run_taken, taken_follows, turned_follows, turned_twins, turned_beyond, follows_long}
 use Rattle.notes.proofs.Twins.{off_follows, tells_ahead, cell_inside}
+use Rattle.tile.specs.declared.lent.Tables.{Tables as Lent}
+use Rattle.tile.specs.Worlds.{StillLent, held}
 use Rattle.tile.proofs.Turns.{whole_turn, lost_turn}
 
 module _ {S : Type 0} (K : Operations S) (plan : Plan) (c : ℕ) (v : S) (u : Note) (i : ℕ) (l : i < length (places_of plan))
@@ -81,3 +85,42 @@ module _ {S : Type 0} (K : Operations S) (plan : Plan) (x : State) (y : Tables S
           (turned_follows K (shape plan) (few_counted plan) w t twins long_w some_w (world_of z y', n')
           (subst (λ k. Follows (world_of z y', n') (peeled K (incidence (shape plan)) k (take K (incidence (shape plan)) w)) (peeled notes (incidence (shape plan)) k (take notes (incidence (shape plan)) t)))
           (sym front_is) (peels _ _ _ at_taken (run_taken K (shape plan) (few_counted plan) w t twins long_w some_w))))
+
+-- What is lent stays long enough.
+pub long_on : {S : Type 0} (plan : Plan) (a b : Lent S) → StillLent a b → LongEnough (shape plan) (held a) → LongEnough (shape plan) (held b)
+long_on plan a b lent long = record {
+  picture = omega (arith, lent.picture_size, long.picture);
+  marks = omega (arith, lent.marks_size, long.marks);
+  sums = omega (arith, lent.sums_size, long.sums);
+  counts = omega (arith, lent.counts_size, long.counts);
+  queue = omega (arith, lent.queue_size, long.queue);
+}
+
+-- After n turns, and one more.
+module _ {S : Type 0} (K : Operations S) (plan : Plan) (w : World S) (t : World Note) (n : ℕ) (x : State) (y : Tables S) (ns : List Note)
+    (so_far : GoesOn (shape plan) w (world_of x y, ns) (turns K (shape plan) n w) (turns notes (shape plan) n t)) (long : LongEnough (shape plan) y) where
+  long_then : LongEnough (shape plan) (tables_of (turns K (shape plan) n w))
+  long_then = follows_long (shape plan) (few_counted plan) (world_of x y, ns) _ _ so_far.follows so_far.twins long
+
+  pub turned_on : 1 ≤ x.waiting → (r : World S × List Note) →
+      Follows r (turn K (shape plan) (turns K (shape plan) n w)) (turn notes (shape plan) (turns notes (shape plan) n t)) →
+      GoesOn (shape plan) w r (turns K (shape plan) (n + 1) w) (turns notes (shape plan) (n + 1) t)
+  turned_on some r f =
+      let one : suc n ≡ n + 1 = omega arith in
+      let some_then : 0 < (turns K (shape plan) n w).state.waiting = subst (λ z. 0 < z.state.waiting) so_far.follows.world some in
+      subst (λ k. GoesOn (shape plan) w r (turns K (shape plan) k w) (turns notes (shape plan) k t)) one (record {
+        follows = f;
+        twins = turned_twins K (shape plan) (few_counted plan) _ _ so_far.twins long_then some_then;
+        beyond = beyond_then _ _ _ _ so_far.beyond (turned_beyond K (shape plan) (few_counted plan) _ _ so_far.twins long_then some_then);
+      })
+
+  pub rests : x.waiting ≡ 0 → n ≤ bins_of (shape plan) →
+      GoesOn (shape plan) w (world_of x y, ns) (turns K (shape plan) (bins_of (shape plan)) w) (turns notes (shape plan) (bins_of (shape plan)) t)
+  rests none few =
+      let none_then : (turns K (shape plan) n w).state.waiting ≡ 0 = ap (λ z. z.state.waiting) (sym so_far.follows.world) ∙ none in
+      let still = both_rest K (shape plan) (few_counted plan) _ _ so_far.twins long_then none_then in
+      let all : (bins_of (shape plan) - n) + n ≡ bins_of (shape plan) = omega arith in
+      subst₂ (GoesOn (shape plan) w (world_of x y, ns))
+      (sym (ap (λ k. turns K (shape plan) k w) (sym all) ∙ at_rest K (shape plan) w n (bins_of (shape plan) - n) still.0))
+      (sym (ap (λ k. turns notes (shape plan) k t) (sym all) ∙ at_rest notes (shape plan) t n (bins_of (shape plan) - n) still.1))
+      so_far

@@ -5,7 +5,7 @@ ghost use Rattle.plan.specs.Shapes.{shape};
 ghost use Rattle.law.specs.Life.{LongEnough};
 ghost use Rattle.law.specs.Positions.{incidence};
 ghost use Rattle.law.specs.Steps.{world_of};
-ghost use Rattle.law.specs.Turns.{turn};
+ghost use Rattle.law.specs.Turns.{turn, turns};
 ghost use Rattle.walk.specs.Finding.{OfTile};
 ghost use Rattle.notes.specs.Words.{note_zero};
 ghost use Rattle.peeling.specs.History.{History};
@@ -13,7 +13,7 @@ ghost use Rattle.peeling.specs.Law.{Run};
 ghost use Rattle.peeling.specs.Steps.{World, taken, spent, take_off_all, peeled};
 ghost use Rattle.notes.specs.Notes.{notes as of_notes, note_of_bin, pixels_noted, cell_noted};
 ghost use Rattle.notes.specs.Offs.{noted_off};
-ghost use Rattle.notes.specs.Twins.{Follows, Telling, Twins};
+ghost use Rattle.notes.specs.Twins.{Follows, Telling, Twins, GoesOn};
 ghost use Rattle.tile.specs.Worlds.{StillLent, held};
 
 use crate::lent::Tables;
@@ -152,4 +152,22 @@ fn turn_noted<K: Kind>(plan: &Plan, state: &mut State, tables: &mut Tables<K>, n
     pass_first(state, bins);
     peel_noted(plan, at, state, tables, notes);
     count_settled(state);
+}
+
+// All turns, until nothing waits. (Lent one by one, as for a settle.)
+fn peel_all_noted<K: Kind>(plan: &Plan, state: &mut State, tables: &mut Tables<K>, notes: &mut [Note])
+    requires long { LongEnough (shape plan.now) (held tables.old) }
+    requires noted { bins_of (shape plan.now) ≤ length notes.old }
+    requires twins { (w : World K) × (t : World Note) × Follows (world_of state.old (held tables.old), notes.old) w t × Twins (shape plan.now) w t }
+    ensures lent { StillLent tables.old tables.new }
+    ensures noted { length notes.new ≡ length notes.old }
+    ensures counts { tables.new.counts.now ≡ tables.old.counts.now }
+    ensures turned { (w : World K) (t : World Note) → Follows (world_of state.old (held tables.old), notes.old) w t → Twins (shape plan.now) w t → GoesOn (shape plan.now) w (world_of state.new (held tables.new), notes.new) (turns K.Kind (shape plan.now) (bins_of (shape plan.now)) w) (turns of_notes (shape plan.now) (bins_of (shape plan.now)) t) }
+{
+    for _ in 0..plan.total() {
+        if state.waiting == 0 {
+            break;
+        }
+        turn_noted(plan, state, tables, notes);
+    }
 }
