@@ -10,3 +10,4 @@ pub mod Sealing
 pub mod Showing
 pub mod Turns
 pub mod Following
+pub mod Beginning

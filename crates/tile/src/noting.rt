@@ -1,24 +1,26 @@
 // One worker's settles on a tile of which each bin has a note, which tells its last missing pixel. Written once for every kind of sample.
-ghost use Rattle.std.specs.Prelude.{◌≡◌, ℕ, ◌<◌, ◌≤◌, length, slice_index_or};
+ghost use Rattle.std.specs.Prelude.{◌≡◌, ℕ, ◌<◌, ◌≤◌, length, map, slice_index_or};
 ghost use Rattle.mojette.specs.Meaning.{pixels_of, bins_of};
 ghost use Rattle.plan.specs.Shapes.{shape};
 ghost use Rattle.law.specs.Life.{LongEnough};
 ghost use Rattle.law.specs.Positions.{incidence};
-ghost use Rattle.law.specs.Steps.{world_of};
+ghost use Rattle.law.specs.Steps.{blank, world_of};
 ghost use Rattle.law.specs.Turns.{turn, turns};
 ghost use Rattle.walk.specs.Finding.{OfTile};
 ghost use Rattle.notes.specs.Words.{note_zero};
 ghost use Rattle.peeling.specs.History.{History};
 ghost use Rattle.peeling.specs.Law.{Run};
-ghost use Rattle.peeling.specs.Steps.{World, taken, spent, take_off_all, peeled};
+ghost use Rattle.peeling.specs.Steps.{World, filled, taken, spent, take_off_all, peeled, seal as peel_seal};
 ghost use Rattle.notes.specs.Notes.{notes as of_notes, note_of_bin, pixels_noted, cell_noted};
 ghost use Rattle.notes.specs.Offs.{noted_off};
 ghost use Rattle.notes.specs.Twins.{Follows, Telling, Twins, GoesOn};
+ghost use Rattle.tile.specs.Seals.{singles_queued};
 ghost use Rattle.tile.specs.Worlds.{StillLent, held};
 
 use crate::lent::Tables;
 use crate::ring::{append, wrapped};
-use notes::Note;
+use crate::seal::fill;
+use notes::{MOST_BINS, Note, note_bins};
 use peeling::State;
 use plan::Plan;
 use samples::{Kind, minus};
@@ -170,4 +172,64 @@ fn peel_all_noted<K: Kind>(plan: &Plan, state: &mut State, tables: &mut Tables<K
         }
         turn_noted(plan, state, tables, notes);
     }
+}
+
+// Queues every position whose bin has one pixel, as its note tells, rising. Its parts are lent one by one, as for `append`.
+#[tactic(auto, using(std::proofs::lemmas::Bool::Decides::nat_tests), unfolding(crate::specs::Seals::singles_queued))]
+fn queue_noted_singles(state: &mut State, bins: usize, notes: &[Note], queue: &mut [u16])
+    requires { (1 ≤ bins) × ((bins < 65536) × ((bins ≤ length notes.now) × (bins ≤ length queue.old))) }
+    ensures { (state.new, queue.new) ≡ singles_queued bins bins (map pixels_noted notes.now) (state.old, queue.old) }
+{
+    for (at, note) in notes[..bins].iter().enumerate() {
+        if note.pixels() == 1 {
+            append(state, queue, bins, at);
+        }
+    }
+}
+
+// Writes the counts that the notes tell.
+fn write_counts(bins: usize, notes: &[Note], counts: &mut [u8])
+    requires room { (bins ≤ length notes.now) × (bins ≤ length counts.old) }
+    requires few { (b : ℕ) → b < bins → pixels_noted (slice_index_or notes.now b note_zero) < 256 }
+    ensures { counts.new ≡ filled bins (λ b. pixels_noted (slice_index_or notes.now b note_zero)) counts.old }
+{
+    for (b, note) in notes[..bins].iter().enumerate() {
+        counts[b] = note.pixels() as u8;
+    }
+}
+
+// The accepted part of a seal, but for the counts, which are not looked at: all pixels missing, each bin with its note, and those with one pixel queued.
+fn begin_noted<K: Kind>(plan: &Plan, tables: &mut Tables<K>, notes: &mut [Note; MOST_BINS]) -> State
+    requires { LongEnough (shape plan.now) (held tables.old) }
+    ensures lent { StillLent tables.old tables.new }
+    ensures counts { tables.new.counts.now ≡ tables.old.counts.now }
+    ensures noted { bins_of (shape plan.now) ≤ length notes.new }
+    ensures begun { (t : World Note) × Follows (world_of result (held tables.new), notes.new) (peel_seal K.Kind (incidence (shape plan.now)) (world_of blank (held tables.old))) t × Twins (shape plan.now) (peel_seal K.Kind (incidence (shape plan.now)) (world_of blank (held tables.old))) t }
+{
+    let pixels = plan.pixels();
+    fill(pixels, K::zero_sample(), tables.picture);
+    fill(pixels, 0, tables.marks);
+    note_bins(plan, notes);
+    let mut state = State {
+        head: 0,
+        waiting: 0,
+        out: 0,
+        left: pixels as u32,
+        settled: 0,
+    };
+    queue_noted_singles(&mut state, plan.total(), notes, tables.queue);
+    state
+}
+
+// A seal that is accepted, and all turns of one worker after it.
+pub(crate) fn peel_alone<K: Kind>(plan: &Plan, tables: &mut Tables<K>) -> State
+    requires { LongEnough (shape plan.now) (held tables.old) }
+    ensures lent { StillLent tables.old tables.new }
+    ensures world { world_of result (held tables.new) ≡ turns K.Kind (shape plan.now) (bins_of (shape plan.now)) (peel_seal K.Kind (incidence (shape plan.now)) (world_of blank (held tables.old))) }
+{
+    let mut notes = [Note { value: 0 }; MOST_BINS];
+    let mut state = begin_noted(plan, tables, &mut notes);
+    peel_all_noted(plan, &mut state, tables, &mut notes);
+    write_counts(plan.total(), &notes, tables.counts);
+    state
 }

@@ -24,7 +24,7 @@ use walk::count_pixels;
 // One value in the first n cells. (`fill` would ask for a clone that cannot fail, which no kind promises.)
 // It takes n, and not the n cells alone, since its contract also says what stands behind them, in the words of the steps; plan's `clear` says the
 // like in the words of its sums.
-fn fill<T: Copy>(n: usize, value: T, cells: &mut [T])
+pub(crate) fn fill<T: Copy>(n: usize, value: T, cells: &mut [T])
     requires { n ≤ length cells.old }
     ensures { cells.new ≡ filled n (λ _. value) cells.old }
 {
