@@ -1,9 +1,10 @@
 -- One turn of both peels.
-use Rattle.std.proofs.Common.{◌≡◌, ℕ, zero, suc, ◌<◌, ◌≤◌, List, ◌∷◌, length, get_or, sym, refl, ap, ◌∙◌, subst, subst₂, arith}
+use Rattle.std.proofs.Common.{◌≡◌, ℕ, zero, suc, Bool, true, false, ◌&&◌, ◌<◌, ◌≤◌, List, ◌∷◌, length, get_or, sym, refl, ap, ◌∙◌, subst, subst₂, arith}
 use Rattle.samples.specs.declared.kind.Kind.{Ghosts as Operations}
 use Rattle.mojette.specs.Meaning.{Shape, pixels_of, bins_of}
 use Rattle.peeling.specs.Beside.{Beside}
-use Rattle.peeling.specs.History.{History, took, settled}
+use Rattle.peeling.specs.Counting.{one_if, tally, number}
+use Rattle.peeling.specs.History.{History, took, settled, missing}
 use Rattle.peeling.specs.Law.{Run}
 use Rattle.peeling.specs.Steps.{World, most, with_state, taken, spent, take_answers, none_waits, grants, peeled, front, take, settle, seal}
 use Rattle.peeling.proofs.Alone.{NoneOut, front_inside, front_granted, taken_run, turned_run, turned_none_out}
@@ -125,3 +126,22 @@ follows_long s fits r w t f twins long = record {
       (run_kept notes (incidence s) fits (noted notes (incidence s) note_of_cell) twins.run).marked.counts_long;
   queue = subst (λ x. bins_of s ≤ length x.queue) f.world long.queue;
 }
+
+-- part of them are no more
+number_part : (n : ℕ) (p q : ℕ → Bool) → number n (λ c. p c && q c) ≤ number n p
+unfolding number tally
+number_part zero p q = omega arith
+number_part (suc n) p q = let before = number_part n p q in let here = one_part (p n) (q n) in omega arith
+  where
+    one_part : (x y : Bool) → one_if (x && y) ≤ one_if x
+    one_part true true = omega arith
+    one_part true false = omega arith
+    one_part false y = omega arith
+
+-- A count is at most the number of pixels in its bin.
+pub counts_few : {S : Type 0} (s : Shape) (fits : bins_of s ≤ most) (w : World S) (t : World Note) → Twins s w t → (b : ℕ) → b < bins_of s →
+    get_or w.counts b 0 ≤ number (pixels_of s) (λ c. (incidence s).lies c b)
+counts_few s fits w t twins b l =
+    let kept = run_kept notes (incidence s) fits (noted notes (incidence s) note_of_cell) twins.run in
+    subst (λ n. n ≤ number (pixels_of s) (λ c. (incidence s).lies c b)) (sym (ap (λ x. get_or x b 0) twins.beside.counts ∙ kept.marked.counts b l))
+    (number_part (pixels_of s) (λ c. (incidence s).lies c b) (missing (incidence s) twins.history))

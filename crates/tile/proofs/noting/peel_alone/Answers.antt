@@ -1,28 +1,28 @@
-use Rattle.std.proofs.Common.{rules, ◌≡◌, ℕ, ◌<◌, ◌≤◌, length, map, slice_index_or, ◌+◌, ◌-◌, ◌*◌, ◌/◌, ◌%◌, Bool, true, false, nat_eq, nat_lt, List, [], ◌∷◌, ◌++◌, slice_set, bit_and, bit_or, Fits, w8, w32, w64, Bor, MutBor}
-use Rattle.mojette.specs.Meaning.{pixels_of, bins_of}
+use Rattle.std.proofs.Common.{◌≡◌, ◌≤◌, ap, sym, ◌∙◌, subst, length, arith}
+use Rattle.mojette.specs.Meaning.{bins_of}
 use Rattle.plan.specs.Shapes.{shape}
-use Rattle.law.specs.Life.{LongEnough}
+use Rattle.peeling.specs.Steps.{seal as peel_seal}
 use Rattle.law.specs.Positions.{incidence}
 use Rattle.law.specs.Steps.{blank, world_of}
-use Rattle.law.specs.Turns.{turn, turns}
-use Rattle.walk.specs.Finding.{OfTile}
-use Rattle.notes.specs.Words.{note_zero}
-use Rattle.peeling.specs.History.{History}
-use Rattle.peeling.specs.Law.{Run}
-use Rattle.peeling.specs.Steps.{World, filled, taken, spent, take_off_all, peeled}
-use Rattle.peeling.specs.Steps.{seal as peel_seal}
-use Rattle.notes.specs.Notes.{notes as of_notes}
-use Rattle.notes.specs.Notes.{note_of_bin, pixels_noted, cell_noted}
-use Rattle.notes.specs.Offs.{noted_off}
-use Rattle.notes.specs.Twins.{Follows, Telling, Twins, GoesOn}
-use Rattle.tile.specs.Seals.{singles_queued}
-use Rattle.tile.specs.Worlds.{StillLent, held}
+use Rattle.notes.specs.Twins.{Beyond}
+use Rattle.tile.specs.Worlds.{held}
+use Rattle.tile.proofs.Beginning.{sealed_beyond, told_few, ends}
 use Rattle.tile.proofs.noting.peel_alone.Goals as goal
 
--- src/noting.rt:233:5
 pub write_counts-requires-clause-few : goal.write_counts-requires-clause-few
-write_counts-requires-clause-few g c = ?
+write_counts-requires-clause-few g c = λ b l.
+    let begun = c.begin_noted-state.ensures.begun in
+    told_few g.K.Kind c.args.plan.now _ _ _ c.peel_all_noted.new.state (held c.peel_all_noted.new.tables) c.peel_all_noted.new.notes
+    (c.peel_all_noted.ensures.turned _ begun.0 begun.1 begun.2) b (omega (arith, l, c.total.ensures.value))
 
--- src/noting.rt:225:1
 pub returns-clause-world : goal.returns-clause-world
-returns-clause-world g c = ?
+returns-clause-world g c =
+    let plan = c.args.plan.now in
+    let y = held c.args.tables.now in
+    let begun = c.begin_noted-state.ensures.begun in
+    let same = c.peel_all_noted.ensures.counts ∙ c.begin_noted-state.ensures.counts in
+    ends g.K.Kind plan _ _ _ c.peel_all_noted.new.state (held c.peel_all_noted.new.tables) c.peel_all_noted.new.notes
+    (c.peel_all_noted.ensures.turned _ begun.0 begun.1 begun.2)
+    (subst (λ x. Beyond (bins_of (shape plan)) x (peel_seal g.K.Kind (incidence (shape plan)) (world_of blank y)).counts) (sym same) (sealed_beyond g.K.Kind plan y))
+    (subst (λ x. bins_of (shape plan) ≤ length x) (sym same) c.requires.counts)
+    c.total.result c.total.ensures.value c.write_counts.new.counts c.write_counts.ensures

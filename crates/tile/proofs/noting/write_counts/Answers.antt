@@ -1,4 +1,4 @@
-use Rattle.std.proofs.Common.{◌≡◌, ℕ, ◌<◌, ◌≤◌, List, length, take, get_or, set, refl, ap, ◌∙◌, subst, length-take-le, add-one, sym, arith}
+use Rattle.std.proofs.Common.{◌≡◌, ℕ, ◌<◌, ◌≤◌, List, length, take, get_or, set, refl, ap, ◌∙◌, subst, length-take-le, add-one, sym, arith, rules}
 use Rattle.std.proofs.lemmas.List.{get_or-take, get_or_default}
 use Rattle.peeling.specs.Steps.{filled}
 use Rattle.notes.specs.declared.note.Note.{Note}
@@ -19,7 +19,8 @@ loop-b-init c = refl
 pub overflow_cast-counts : goal.overflow_cast-counts
 overflow_cast-counts c =
     let r = note_read c.args.bins c.loop-b.b c.args.notes.now c.note-item.result c.requires.room.0 c.loop-b-test.true c.note-item.is in
-    subst (λ n. n < 256) (sym (c.pixels.ensures ∙ ap pixels_noted r.1)) (c.requires.few c.loop-b.b r.0)
+    let m : c.pixels.result < 256 = subst (λ n. n < 256) (sym (c.pixels.ensures ∙ ap pixels_noted r.1)) (c.requires.few c.loop-b.b r.0) in
+    search rules
 
 pub loop-b-preserved : goal.loop-b-preserved
 unfolding filled
