@@ -1,5 +1,6 @@
 pub mod Positions
 pub mod Steps
+pub mod Turns
 pub mod Opening
 pub mod Life
 pub mod Law

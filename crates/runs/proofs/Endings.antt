@@ -16,6 +16,7 @@ use Rattle.law.specs.Life.{History, Life, born, event, loaded_places, since_seal
 use Rattle.law.specs.Life as calls
 use Rattle.law.specs.Positions.{incidence, place_at, bin_at}
 use Rattle.law.specs.Steps.{loading, peeling, finished, Tables, done, refused, Outcome, world_of, criterion, C, R, short, seal, finish, finish_outcome}
+use Rattle.law.specs.Turns.{loaded}
 use Rattle.law.proofs.Lives.{kept, finish_is}
 use Rattle.law.proofs.Outcome.{law}
 use Rattle.law.proofs.Sealing.{none_short, seal_ghost, seal_accepted}
@@ -33,7 +34,6 @@ use Rattle.tile.proofs.Living.{calls_live}
 use Rattle.runs.specs.Rebuilding.{Ready, Rebuilds, unlawful, too_short, ghosted, contradicted, rebuilt, CanBeRebuilt, Served, ServesExactly, served, refuses}
 use Rattle.runs.specs.Rebuilding as answers
 use Rattle.runs.specs.Runs.{LoadsAll, AllLoaded, PeelsAll, AllPeeled, AtRest}
-use Rattle.runs.specs.Turns.{loaded}
 use Rattle.runs.specs.Worker.{one_worker, with_tables, sealing, finishing, ends}
 use Rattle.runs.proofs.Turns.{not_both}
 

@@ -15,6 +15,7 @@ use Rattle.law.specs.Law.{T, Waits, grants_of, settles_of}
 use Rattle.law.specs.Life.{History, Life, take_does, event, is_served, loaded_places, since_seal}
 use Rattle.law.specs.Life as calls
 use Rattle.law.specs.Steps.{loading, peeling, Tables, Answer, done, granted, settled, refused, world_of, load, take, settle}
+use Rattle.law.specs.Turns.{state_of, turn, turns, loaded}
 use Rattle.law.proofs.Lives.{kept}
 use Rattle.law.proofs.Loading.{load_next, records_number}
 use Rattle.law.proofs.Outcome.{law}
@@ -25,7 +26,6 @@ use Rattle.tile.specs.declared.states.Refused.{Refused}
 use Rattle.tile.specs.Calls.{Loads, Takes, Settles}
 use Rattle.tile.specs.Outcomes.{tables, take_outcome}
 use Rattle.tile.proofs.Living.{calls_live}
-use Rattle.runs.specs.Turns.{state_of, turn, turns, loaded}
 
 -- a served answer is no refusal
 pub not_both : {a b : Answer} → is_served a ≡ true → is_served b ≡ false → a ≡ b → ⊥

@@ -7,8 +7,8 @@ use Rattle.plan.specs.Shapes.{shape}
 use Rattle.law.specs.Law.{T, Waits, grants_of}
 use Rattle.law.specs.Life.{History, Life, loaded_places}
 use Rattle.law.specs.Steps.{Stage, loading, peeling, Tables, world_of}
+use Rattle.law.specs.Turns.{turns, loaded}
 use Rattle.peeling.specs.Steps.{World}
-use Rattle.runs.specs.Turns.{turns, loaded}
 use Rattle.tile.specs.declared.states.Grant.{Grant}
 use Rattle.tile.specs.declared.states.Loading.{Loading}
 use Rattle.tile.specs.declared.states.Peeling.{Peeling}

@@ -5,11 +5,11 @@ use Rattle.law.specs.Life.{event}
 use Rattle.law.specs.Life as calls
 use Rattle.plan.specs.Shapes.{shape}
 use Rattle.law.specs.Steps.{granted, settled, refused, peeling, world_of}
+use Rattle.law.specs.Turns.{turn}
 use Rattle.law.proofs.Outcome.{law}
 use Rattle.tile.specs.Outcomes.{tables}
 use Rattle.tile.specs.Worlds.{held}
 use Rattle.runs.proofs.Turns.{taken_one, none_taken, none_waits, settled_one, settle_serves, grant_is_out, none_out, one_settled, still_out, still_waits, turned_once, turned_none, one_more, all_turns}
-use Rattle.runs.specs.Turns.{turn}
 use Rattle.runs.proofs.steps.peel_all.Goals as goal
 
 pub returns-in-Err-clause-peeled : goal.returns-in-Err-clause-peeled

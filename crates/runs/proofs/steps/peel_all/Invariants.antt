@@ -4,8 +4,8 @@ use Rattle.plan.specs.Shapes.{shape}
 use Rattle.law.specs.Law.{grants_of, settles_of}
 use Rattle.law.specs.Life.{History, Life}
 use Rattle.law.specs.Steps.{peeling, world_of}
+use Rattle.law.specs.Turns.{turns}
 use Rattle.tile.specs.Worlds.{StillLent, held}
-use Rattle.runs.specs.Turns.{turns}
 use Rattle.runs.proofs.steps.peel_all.Given as goal
 
 -- From a life with no grant out there is one with no grant out and as many settles as turns, or more; and so many turns were made.
