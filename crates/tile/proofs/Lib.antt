@@ -9,3 +9,4 @@ pub mod Rings
 pub mod Sealing
 pub mod Showing
 pub mod Turns
+pub mod Workers
