@@ -11,3 +11,4 @@ pub mod Showing
 pub mod Turns
 pub mod Following
 pub mod Beginning
+pub mod Workers

@@ -1,6 +1,7 @@
 // The calls on a tile: the states that they take and hand on, and the tables that they work on.
 #![tactic(auto)]
 
+pub mod alone;
 pub mod counts;
 pub mod finish;
 pub mod lent;

@@ -9,7 +9,7 @@ ghost use Rattle.law.specs.Steps.{blank, world_of};
 ghost use Rattle.walk.specs.Counts.{counts_after};
 ghost use Rattle.tile.specs.Calls.{Seals};
 ghost use Rattle.tile.specs.Outcomes.{tables};
-ghost use Rattle.tile.specs.Seals.{unpeeled, singles_queued, Judges};
+ghost use Rattle.tile.specs.Seals.{unpeeled, singles_queued, Judges, Accepts};
 ghost use Rattle.tile.specs.Worlds.{StillLent, held};
 
 use crate::lent::Tables;
@@ -88,6 +88,31 @@ fn judge<K: Kind>(plan: &Plan, picture: &mut [K]) -> Result<(), Fault>
     } else {
         Err(Fault::Ghost(criterion.columns, criterion.rows))
     }
+}
+
+// What a seal asks first: tables, places loaded, and Katz's criterion; where that fails the ghost is written.
+#[tactic(auto, using(std::proofs::lemmas::Bool::Decides::nat_tests, crate::proofs::Checks::all_long), unfolding(law::specs::Steps::seal, law::specs::Steps::ghosted))]
+pub(crate) fn accept<K: Kind>(
+    tile: Loading,
+    plan: &Plan,
+    tables: &mut Tables<K>,
+) -> Result<(), Refused<Loading>>
+    ensures lent { StillLent tables.old tables.new }
+    ensures accepts { Accepts K.Kind (shape plan.now) tile.loaded (held tables.old) result (held tables.new) }
+{
+    // By hand: the closure of a `map_err` would move the state, which the steps below need.
+    if let Err(fault) = tables.check(plan) {
+        return Err(Refused { back: tile, fault });
+    }
+    let places = plan.count();
+    if tile.loaded < places {
+        let missing = places - tile.loaded;
+        return Err(Refused {
+            back: tile,
+            fault: Fault::NotLoaded(missing),
+        });
+    }
+    judge(plan, tables.picture).map_err(|fault| Refused { back: tile, fault })
 }
 
 impl Loading {
