@@ -31,12 +31,11 @@ use Rattle.tile.specs.Outcomes as outcomes
 use Rattle.tile.specs.Worlds.{short_refusal}
 use Rattle.tile.proofs.Checks.{all_long}
 use Rattle.tile.proofs.Living.{calls_live}
-use Rattle.tile.proofs.Workers.{not_both}
 use Rattle.runs.specs.Rebuilding.{Ready, Rebuilds, unlawful, too_short, ghosted, contradicted, rebuilt, CanBeRebuilt, Served, ServesExactly, served, refuses}
 use Rattle.runs.specs.Rebuilding as answers
 use Rattle.runs.specs.Runs.{LoadsAll, AllLoaded}
 use Rattle.runs.specs.Worker.{one_worker, with_tables, sealing, finishing, ends}
-use Rattle.runs.proofs.Turns.{Free, Rest, all_peeled}
+use Rattle.runs.proofs.Turns.{not_both, Free, Rest, all_peeled}
 
 same_refusal : {r s : Refusal} → refused r ≡ refused s → r ≡ s
 same_refusal {r} {s} e = cc

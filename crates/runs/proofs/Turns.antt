@@ -1,6 +1,6 @@
 -- The calls of a run: each load, and the turns of one worker.
-use Rattle.std.proofs.Common.{◌≡◌, ℕ, zero, suc, ◌+◌, ◌<◌, ◌≤◌, true, eqb, ◌⊎◌, List, ◌∷◌, length, Ok, Err, Option, sym, refl, ap, ◌∙◌, subst, inl, inr, ⊎_elim, arith}
-use Rattle.std.proofs.lemmas.Bool.{eq-eqb}
+use Rattle.std.proofs.Common.{◌≡◌, ℕ, zero, suc, ◌+◌, ◌<◌, ◌≤◌, true, false, eqb, ◌⊎◌, List, ◌∷◌, length, Ok, Err, Option, sym, refl, ap, ◌∙◌, subst, inl, inr, ⊎_elim, arith}
+use Rattle.std.proofs.lemmas.Bool.{true≢false, eq-eqb}
 use Rattle.samples.specs.declared.kind.Kind.{Ghosts as Operations}
 use Rattle.mojette.specs.Faults.{refusal_of}
 use Rattle.mojette.specs.Meaning.{Meaning, shape_of, bins_of}
@@ -12,10 +12,10 @@ use Rattle.peeling.specs.Steps.{take as peel_take, settle as peel_settle}
 use Rattle.plan.specs.declared.plan.Plan.{Plan}
 use Rattle.plan.specs.Shapes.{shape}
 use Rattle.law.specs.Law.{T, Waits, grants_of, settles_of}
-use Rattle.law.specs.Life.{History, Life, then, take_does, settle_does, event, loaded_places, since_seal}
+use Rattle.law.specs.Life.{History, Life, then, take_does, settle_does, event, is_served, loaded_places, since_seal}
 use Rattle.law.specs.Life as calls
 use Rattle.law.specs.Positions.{incidence}
-use Rattle.law.specs.Steps.{loading, peeling, Tables, done, granted, settled, refused, refuse, peels_on, tables_of, load, take_outcome, take, finds, settle}
+use Rattle.law.specs.Steps.{loading, peeling, Tables, Answer, done, granted, settled, refused, refuse, peels_on, tables_of, load, take_outcome, take, finds, settle}
 use Rattle.law.specs.Turns.{moved, spend, turn, turns, loaded}
 use Rattle.law.proofs.Lives.{kept, take_is, settle_is, inside}
 use Rattle.law.proofs.Loading.{load_next, records_number}
@@ -25,7 +25,10 @@ use Rattle.tile.specs.declared.states.Refused.{Refused}
 use Rattle.tile.specs.Calls.{Loads}
 use Rattle.tile.specs.Outcomes.{tables}
 use Rattle.tile.proofs.Living.{calls_live}
-use Rattle.tile.proofs.Workers.{not_both}
+
+-- a served answer is no refusal
+pub not_both : {a b : Answer} → is_served a ≡ true → is_served b ≡ false → a ≡ b → ⊥
+not_both p q e = true≢false (sym p ∙ ap is_served e ∙ q)
 
 module _ {S : Type 0} (K : Operations S) (m : Meaning S) (plan : Plan) (own : shape plan ≡ shape_of m) where
   -- Load ----------------------------------------------------------------------------------------------------------------

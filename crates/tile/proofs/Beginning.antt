@@ -1,5 +1,5 @@
 -- How a peel with notes begins: as the seal, but for the counts, and beside it the seal of the notes.
-use Rattle.std.proofs.Common.{◌≡◌, ℕ, zero, suc, ◌<◌, ◌≤◌, eqb, cond, List, map, length, get_or, replicate, sym, refl, ap, ◌∙◌, subst, subst₂, arith}
+use Rattle.std.proofs.Common.{◌≡◌, ℕ, zero, suc, ◌<◌, ◌≤◌, eqb, cond, List, map, length, get_or, replicate, sym, refl, ap, ◌∙◌, subst, arith}
 use Rattle.std.proofs.lemmas.List.{get_or-map, length-replicate}
 use Rattle.samples.specs.declared.kind.Kind.{Ghosts as Operations}
 use Rattle.mojette.specs.Meaning.{pixels_of, bins_of}
@@ -17,7 +17,7 @@ use Rattle.law.specs.Positions.{incidence}
 use Rattle.law.specs.Steps.{Tables, world_of, blank}
 use Rattle.notes.specs.declared.note.Note.{Note}
 use Rattle.notes.specs.Words.{note_zero}
-use Rattle.notes.specs.Notes.{notes, note_of_cell, note_of_bin, pixels_noted, Noted}
+use Rattle.notes.specs.Notes.{notes, note_of_cell, pixels_noted, Noted}
 use Rattle.notes.specs.Twins.{with_counts, Follows, Twins, Beyond, GoesOn}
 use Rattle.notes.proofs.Counted.{pixels_sum}
 use Rattle.notes.proofs.Beyond.{beyond_filled, beyond_then, filled_is}

@@ -5,7 +5,7 @@ use Rattle.mojette.specs.Meaning.{pixels_of, bins_of}
 use Rattle.peeling.specs.declared.state.State.{State}
 use Rattle.peeling.specs.History.{History}
 use Rattle.peeling.specs.Law.{Run}
-use Rattle.peeling.specs.Steps.{World, taken, spent, front, take_off, take_off_all, peeled, take}
+use Rattle.peeling.specs.Steps.{World, taken, spent, front, take_off_all, peeled, take}
 use Rattle.plan.specs.declared.plan.Plan.{Plan}
 use Rattle.plan.specs.Laid.{place_at}
 use Rattle.plan.specs.Shapes.{shape, places_of}

@@ -11,4 +11,3 @@ pub mod Showing
 pub mod Turns
 pub mod Following
 pub mod Beginning
-pub mod Workers

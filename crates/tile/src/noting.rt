@@ -157,7 +157,12 @@ fn turn_noted<K: Kind>(plan: &Plan, state: &mut State, tables: &mut Tables<K>, n
 }
 
 // All turns, until nothing waits. (Lent one by one, as for a settle.)
-fn peel_all_noted<K: Kind>(plan: &Plan, state: &mut State, tables: &mut Tables<K>, notes: &mut [Note])
+fn peel_all_noted<K: Kind>(
+    plan: &Plan,
+    state: &mut State,
+    tables: &mut Tables<K>,
+    notes: &mut [Note],
+)
     requires long { LongEnough (shape plan.now) (held tables.old) }
     requires noted { bins_of (shape plan.now) ≤ length notes.old }
     requires twins { (w : World K) × (t : World Note) × Follows (world_of state.old (held tables.old), notes.old) w t × Twins (shape plan.now) w t }

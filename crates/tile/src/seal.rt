@@ -117,7 +117,6 @@ pub(crate) fn accept<K: Kind>(
 
 impl Loading {
     // Begins the peeling where Katz's criterion holds; else the picture shows a ghost. The tables are the callers' and stay slices.
-    #[tactic(auto, using(std::proofs::lemmas::Bool::Decides::nat_tests, crate::proofs::Checks::all_long), unfolding(law::specs::Steps::seal, law::specs::Steps::ghosted))]
     pub fn seal<K: Kind>(
         self,
         plan: &Plan,
@@ -136,19 +135,7 @@ impl Loading {
             counts,
             queue,
         };
-        // By hand: the closure of a `map_err` would move the state, which the steps below need.
-        if let Err(fault) = tables.check(plan) {
-            return Err(Refused { back: self, fault });
-        }
-        let places = plan.count();
-        if self.loaded < places {
-            let missing = places - self.loaded;
-            return Err(Refused {
-                back: self,
-                fault: Fault::NotLoaded(missing),
-            });
-        }
-        judge(plan, tables.picture).map_err(|fault| Refused { back: self, fault })?;
+        accept(self, plan, &mut tables)?;
         Ok(Peeling {
             state: begin(plan, &mut tables),
         })

@@ -1,7 +1,5 @@
-use Rattle.std.proofs.Common.{◌≡◌, List, map, ap, ◌∙◌, arith}
-use Rattle.mojette.specs.Meaning.{pixels_of, bins_of}
+use Rattle.std.proofs.Common.{map, ◌∙◌, arith}
 use Rattle.peeling.specs.Steps.{filled}
-use Rattle.plan.specs.Shapes.{shape}
 use Rattle.notes.specs.Notes.{pixels_noted}
 use Rattle.notes.proofs.Most.{few}
 use Rattle.tile.specs.Seals.{singles_queued}

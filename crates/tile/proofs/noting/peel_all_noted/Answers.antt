@@ -1,4 +1,4 @@
-use Rattle.std.proofs.Common.{◌≡◌, refl, ap, ◌∙◌, subst₂, arith}
+use Rattle.std.proofs.Common.{◌≡◌, refl, ◌∙◌, subst₂, arith}
 use Rattle.mojette.specs.Meaning.{bins_of}
 use Rattle.plan.specs.Shapes.{shape}
 use Rattle.law.specs.Steps.{world_of}

@@ -1,4 +1,4 @@
-use Rattle.std.proofs.Common.{◌≡◌, ◌≤◌, ap, sym, ◌∙◌, subst, length, arith}
+use Rattle.std.proofs.Common.{◌≤◌, sym, ◌∙◌, subst, length, arith}
 use Rattle.mojette.specs.Meaning.{bins_of}
 use Rattle.plan.specs.Shapes.{shape}
 use Rattle.peeling.specs.Steps.{seal as peel_seal}

@@ -1,6 +1,5 @@
 use Rattle.std.proofs.Common.{ap, ◌∙◌, ◌%◌, get_or}
 use Rattle.peeling.specs.Steps.{front, taken}
-use Rattle.plan.specs.Shapes.{shape}
 use Rattle.tile.specs.Worlds.{held}
 use Rattle.tile.proofs.Following.{at_inside, cell_known, turn_follows}
 use Rattle.tile.proofs.noting.turn_noted.Goals as goal
