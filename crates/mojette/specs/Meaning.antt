@@ -1,6 +1,6 @@
 -- What a source means: the size of a tile, its places, and the sums of the places that are whole.
 -- Which meanings are lawful, which tiles agree with one, and which tiles vanish in it.
-use Rattle.std.specs.Prelude.{◌≡◌, ℕ, suc, ◌*◌, ◌<◌, Bool, true, cond, ◌&&◌, List, [], ◌∷◌, map, length, Some, None, Option, nat_le, slice_index_or}
+use Rattle.std.specs.Prelude.{◌≡◌, ℕ, suc, ◌*◌, ◌<◌, Bool, true, cond, ◌&&◌, List, [], ◌∷◌, map, length, pos, Some, None, Option, nat_le, slice_index_or}
 use Rattle.std.specs.List.{AllByRecursion}
 use Rattle.samples.specs.declared.kind.Kind.{Ghosts as Operations}
 use Rattle.mojette.specs.declared.direction.Direction.{Direction}
@@ -26,6 +26,13 @@ pub record Meaning (S : Type 0) : Type 0 where
   pub P : ℕ
   pub Q : ℕ
   pub places : List (Place S)
+
+-- what a list of records, or of places, says beyond its end
+abbrev pub no_record : Record
+no_record = record { direction = record { p = pos 0; q = pos 1 }; cause = 0 }
+
+abbrev pub no_place : {S : Type 0} → Place S
+no_place = record { entry = no_record; sums = [] }
 
 abbrev pub shape_of : {S : Type 0} → Meaning S → Shape
 shape_of m = record { P = m.P; Q = m.Q; records = map (λ x. x.entry) m.places }
