@@ -4,6 +4,7 @@ ghost use Rattle.mojette.specs.Faults.{refused};
 ghost use Rattle.mojette.specs.Meaning.{places_verdict};
 ghost use Rattle.plan.specs.Layouts.{Plans};
 ghost use Rattle.plan.specs.Shapes.{shape};
+ghost use Rattle.plan.specs.Wrong.{FirstWrong};
 
 use crate::lay::lay;
 use crate::places::Place;
@@ -60,9 +61,10 @@ fn lay_out(size: Size, records: &[Record]) -> Plan
 }
 
 impl Plan {
-    // The plan of a shape, or why it is not lawful. Any two numbers may be asked for.
+    // The plan of a shape, or why it is not lawful: which place is the first that is wrong, and how. Any two numbers may be asked for.
     pub fn of(columns: usize, rows: usize, records: &[Record]) -> Result<Plan, Fault>
-        ensures { Plans (record { P = columns; Q = rows; records = records.now }) result }
+        ensures plan { Plans (record { P = columns; Q = rows; records = records.now }) result }
+        ensures first { FirstWrong (record { P = columns; Q = rows; records = records.now }) (refused result) }
     {
         let size = Size::of(columns, rows)?;
         if records.len() < 1 || records.len() > MOST_PLACES {
