@@ -1,5 +1,6 @@
 pub mod Positions
 pub mod Steps
+pub mod Leftover
 pub mod Opening
 pub mod Life
 pub mod Law
