@@ -7,7 +7,8 @@ use Rattle.mojette.specs.declared.direction.Direction.{Direction}
 use Rattle.mojette.specs.declared.direction.Record.{Record}
 use Rattle.mojette.specs.Bounds.{most_side, most_places}
 use Rattle.mojette.specs.Directions.{lawful, before}
-use Rattle.mojette.specs.Bins.{bins, whole, all_bins}
+use Rattle.mojette.specs.Bins.{bins, whole, all_bins, whole_directions}
+use Rattle.mojette.specs.Ghosts.{Ghost as DirectionGhost}
 use Rattle.mojette.specs.Refusals.{Refusal, refusal}
 use Rattle.mojette.specs.Transform.{bin_sum}
 
@@ -90,9 +91,5 @@ module _ {S : Type 0} (K : Operations S) (m : Meaning S) where
         → bin_sum K m.P m.Q tile x.entry.direction b ≡ slice_index_or x.sums b K.zero) m.places
 
   -- A ghost is a tile that is not zero, and sums to zero in every bin of every whole place.
-  pub record Ghost (tile : List S) : Type 0 where
-    pub size : length tile ≡ m.P * m.Q
-    pub vanishes :
-        AllByRecursion (λ x. whole x.entry ≡ true → (b : ℕ) → b < bins m.P m.Q x.entry.direction
-        → bin_sum K m.P m.Q tile x.entry.direction b ≡ K.zero) m.places
-    pub nonzero : (c : ℕ) × (c < m.P * m.Q) × (¬ (slice_index_or tile c K.zero ≡ K.zero))
+  abbrev pub Ghost : List S → Type 0
+  Ghost tile = DirectionGhost K m.P m.Q (whole_directions (shape_of m).records) tile
