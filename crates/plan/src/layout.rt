@@ -1,5 +1,6 @@
 // Making a plan of a tile's shape.
 ghost use Rattle.std.specs.Prelude.{◌≡◌, ◌≤◌, length, None};
+ghost use Rattle.mojette.specs.Bounds.{most_places};
 ghost use Rattle.mojette.specs.Faults.{refused};
 ghost use Rattle.mojette.specs.Meaning.{places_verdict};
 ghost use Rattle.plan.specs.Layouts.{Plans};
@@ -31,7 +32,7 @@ fn check_places(records: &[Record]) -> Result<(), Fault>
 
 // The plan of a lawful shape.
 fn lay_out(size: Size, records: &[Record]) -> Plan
-    requires number { (1 ≤ length records.now) × (length records.now ≤ 16) }
+    requires number { (1 ≤ length records.now) × (length records.now ≤ most_places) }
     requires places { places_verdict 0 None records.now ≡ None }
     ensures { shape result ≡ record { P = size.columns; Q = size.rows; records = records.now } }
 {
