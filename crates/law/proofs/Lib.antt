@@ -1,4 +1,5 @@
 pub mod Places
+pub mod Leftover
 pub mod Opening
 pub mod Agreement
 pub mod Sizes
