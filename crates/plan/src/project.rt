@@ -16,8 +16,9 @@ use mojette::{Direction, Fault, Record, Size, Table};
 use samples::Kind;
 
 // Adds each sample of the picture to the sum of its bin, in the order of the cells. The bins of a row come q apart, the first column's last, so that
-// one number steps down them. (Size and place, as for `lay`.)
-fn add_up<K: Kind>(size: Size, place: Place, picture: &[K], sums: &mut [K])
+// one number steps down them. Q is q once more, as a constant, so that the loops are compiled for each q alone. (Size and place, as for `lay`.)
+fn add_up<const Q: usize, K: Kind>(size: Size, place: Place, picture: &[K], sums: &mut [K])
+    requires step { place.q ≡ Q }
     requires small { (place.slope ≤ most_step) × (place.q ≤ most_step) }
     requires room { (size.columns * size.rows ≤ length picture.now) × (bins size.columns size.rows (direction_of place) ≤ length sums.old) }
     requires clear { SumUpTo K.Kind size.columns size.rows (direction_of place) picture.now 0 sums.old }
@@ -25,12 +26,32 @@ fn add_up<K: Kind>(size: Size, place: Place, picture: &[K], sums: &mut [K])
     ensures others { drop (bins size.columns size.rows (direction_of place)) sums.new ≡ drop (bins size.columns size.rows (direction_of place)) sums.old }
 {
     for l in 0..size.rows {
-        let mut bin = place.bin_of(size, 0, l) + place.q;
+        let mut bin = place.bin_of(size, 0, l) + Q;
         for k in 0..size.columns {
-            bin -= place.q;
+            bin -= Q;
             let cell = cell_of(size, k, l);
             sums[bin] = sums[bin].add(picture[cell]);
         }
+    }
+}
+
+// The same with the loops of the place's q.
+fn add_up_by_step<K: Kind>(size: Size, place: Place, picture: &[K], sums: &mut [K])
+    requires small { (place.slope ≤ most_step) × (place.q ≤ most_step) }
+    requires room { (size.columns * size.rows ≤ length picture.now) × (bins size.columns size.rows (direction_of place) ≤ length sums.old) }
+    requires clear { SumUpTo K.Kind size.columns size.rows (direction_of place) picture.now 0 sums.old }
+    ensures sums { SumUpTo K.Kind size.columns size.rows (direction_of place) picture.now (size.columns * size.rows) sums.new }
+    ensures others { drop (bins size.columns size.rows (direction_of place)) sums.new ≡ drop (bins size.columns size.rows (direction_of place)) sums.old }
+{
+    match place.q {
+        0 => add_up::<0, K>(size, place, picture, sums),
+        1 => add_up::<1, K>(size, place, picture, sums),
+        2 => add_up::<2, K>(size, place, picture, sums),
+        3 => add_up::<3, K>(size, place, picture, sums),
+        4 => add_up::<4, K>(size, place, picture, sums),
+        5 => add_up::<5, K>(size, place, picture, sums),
+        6 => add_up::<6, K>(size, place, picture, sums),
+        _ => add_up::<7, K>(size, place, picture, sums),
     }
 }
 
@@ -46,7 +67,7 @@ fn write_sums<K: Kind>(size: Size, direction: Direction, picture: &[K], sums: &m
     };
     let place = lay(size, entry, 0);
     clear(&mut sums[..place.bins]);
-    add_up(size, place, picture, sums);
+    add_up_by_step(size, place, picture, sums);
 }
 
 // Writes the sums of one direction, and answers how many bins it has. Any two numbers and any direction may be asked for.

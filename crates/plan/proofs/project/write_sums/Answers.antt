@@ -9,8 +9,8 @@ use Rattle.plan.proofs.Adding.{none_added, all_added}
 use Rattle.plan.proofs.Cells.{laid_direction, steps_most}
 use Rattle.plan.proofs.project.write_sums.Goals as goal
 
-pub add_up-requires : goal.add_up-requires
-add_up-requires g c =
+pub add_up_by_step-requires : goal.add_up_by_step-requires
+add_up_by_step-requires g c =
     let P = c.args.size.columns in
     let Q = c.args.size.rows in
     let laid = c.lay-place.ensures in
@@ -37,10 +37,10 @@ returns g c =
     let sums = c.args.sums.now in
     let size : n ≡ bins P Q c.args.direction = ap (λ x. x.bins) laid in
     let long : length c.clear.new.cells ≡ n = omega (arith, c.clear.auto.cells, length-take n sums, c.requires.room.1, size) in
-    let others : drop (bins P Q c.args.direction) c.add_up.new.sums ≡ drop (bins P Q c.args.direction) c.args.sums.now =
-    subst (λ (e : Direction). drop (bins P Q e) c.add_up.new.sums ≡ drop (bins P Q e) (c.clear.new.cells ++ drop n sums)) d c.add_up.ensures.others
+    let others : drop (bins P Q c.args.direction) c.add_up_by_step.new.sums ≡ drop (bins P Q c.args.direction) c.args.sums.now =
+    subst (λ (e : Direction). drop (bins P Q e) c.add_up_by_step.new.sums ≡ drop (bins P Q e) (c.clear.new.cells ++ drop n sums)) d c.add_up_by_step.ensures.others
     ∙ (λ i. drop (sym (long ∙ size) i) (c.clear.new.cells ++ drop n sums)) ∙ drop-append_seam c.clear.new.cells (drop n sums) ∙ ap (λ m. drop m sums) size in
-    all_added g.K.Kind P Q c.args.direction c.args.picture.now c.args.sums.now c.add_up.new.sums
-    (omega (arith, c.requires.room.1, length-append c.clear.new.cells (drop n sums), length-drop n sums, long, size, c.add_up.auto.sums))
-    (subst (λ (e : Direction). SumUpTo g.K.Kind P Q e c.args.picture.now (P * Q) c.add_up.new.sums) d c.add_up.ensures.sums)
+    all_added g.K.Kind P Q c.args.direction c.args.picture.now c.args.sums.now c.add_up_by_step.new.sums
+    (omega (arith, c.requires.room.1, length-append c.clear.new.cells (drop n sums), length-drop n sums, long, size, c.add_up_by_step.auto.sums))
+    (subst (λ (e : Direction). SumUpTo g.K.Kind P Q e c.args.picture.now (P * Q) c.add_up_by_step.new.sums) d c.add_up_by_step.ensures.sums)
     others
