@@ -1,12 +1,11 @@
 -- Beyond its bins a table of counts stays as it was.
-use Rattle.std.proofs.Common.{◌≡◌, ℕ, zero, suc, ◌-◌, ◌<◌, ◌≤◌, Bool, true, false, cond, eqb, ◌⊎◌, List, length, get_or, set, sym, refl, ap, ◌∙◌, inl, inr, ⊎_elim, arith}
+use Rattle.std.proofs.Common.{◌≡◌, ℕ, zero, suc, ◌-◌, ◌<◌, ◌≤◌, Bool, true, false, cond, eqb, List, length, get_or, set, sym, refl, ◌∙◌, ⊎_elim, arith}
 use Rattle.std.proofs.lemmas.List.{get_or-set_other, length-set, ext_get_or}
 use Rattle.std.proofs.lemmas.Bool.{cases_lt}
 use Rattle.samples.specs.declared.kind.Kind.{Ghosts as Operations}
-use Rattle.mojette.specs.Meaning.{Shape, bins_of}
 use Rattle.peeling.specs.Counting.{number, least}
 use Rattle.peeling.specs.Incidence.{Incidence}
-use Rattle.peeling.specs.Steps.{World, filled, append, lowered, take_off, take_off_all, placed, find, open_in, peeled, take, settle}
+use Rattle.peeling.specs.Steps.{World, filled, append, lowered, take_off, take_off_all, placed, find, open_in, peeled, settle}
 use Rattle.notes.specs.Twins.{Beyond}
 use Rattle.peeling.proofs.Loops.{length-filled, get_or-filled}
 

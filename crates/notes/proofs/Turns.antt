@@ -1,13 +1,13 @@
 -- One turn of both peels.
-use Rattle.std.proofs.Common.{◌≡◌, ℕ, zero, suc, Bool, true, false, ◌&&◌, ◌<◌, ◌≤◌, List, ◌∷◌, length, get_or, sym, refl, ap, ◌∙◌, subst, subst₂, arith}
+use Rattle.std.proofs.Common.{◌≡◌, ℕ, zero, suc, Bool, true, false, ◌&&◌, ◌<◌, ◌≤◌, List, ◌∷◌, length, get_or, sym, ap, ◌∙◌, subst, subst₂, arith}
 use Rattle.samples.specs.declared.kind.Kind.{Ghosts as Operations}
 use Rattle.mojette.specs.Meaning.{Shape, pixels_of, bins_of}
 use Rattle.peeling.specs.Beside.{Beside}
 use Rattle.peeling.specs.Counting.{one_if, tally, number}
 use Rattle.peeling.specs.History.{History, took, settled, missing}
 use Rattle.peeling.specs.Law.{Run}
-use Rattle.peeling.specs.Steps.{World, most, with_state, taken, spent, take_answers, none_waits, grants, peeled, front, take, settle, seal}
-use Rattle.peeling.proofs.Alone.{NoneOut, front_inside, front_granted, taken_run, turned_run, turned_none_out}
+use Rattle.peeling.specs.Steps.{World, most, with_state, taken, spent, take_answers, grants, peeled, front, take, settle}
+use Rattle.peeling.proofs.Alone.{front_inside, front_granted, taken_run, turned_run, turned_none_out}
 use Rattle.peeling.proofs.Beside.{take_beside, settle_beside}
 use Rattle.peeling.proofs.Invariant.{Kept}
 use Rattle.peeling.proofs.Outcome.{run_kept}
@@ -20,7 +20,7 @@ use Rattle.law.specs.Turns.{turn}
 use Rattle.law.proofs.Turning.{turn_is, turn_none}
 use Rattle.notes.specs.declared.note.Note.{Note}
 use Rattle.notes.specs.Notes.{notes, note_of_cell}
-use Rattle.notes.specs.Twins.{with_counts, Follows, Twins, Beyond}
+use Rattle.notes.specs.Twins.{Follows, Twins, Beyond}
 use Rattle.notes.proofs.Beyond.{settle_beyond}
 
 

@@ -1,5 +1,5 @@
 -- The peel of the notes tells what the peel of the samples beside it would have to search for.
-use Rattle.std.proofs.Common.{◌≡◌, ℕ, zero, suc, ◌+◌, ◌-◌, ◌<◌, ◌≤◌, Bool, true, false, cond, ◌&&◌, eqb, List, length, get_or, set, sym, refl, ap, ◌∙◌, subst, subst₂, arith}
+use Rattle.std.proofs.Common.{◌≡◌, ℕ, ◌-◌, ◌<◌, ◌≤◌, Bool, true, false, cond, ◌&&◌, eqb, List, get_or, set, sym, refl, ap, ◌∙◌, subst, subst₂, arith}
 use Rattle.std.proofs.lemmas.Bool.{cond-true, cond-false, eq-eqb, ne_eqb}
 use Rattle.samples.specs.declared.kind.Kind.{Ghosts as Operations}
 use Rattle.samples.specs.Sums.{sum_below}
@@ -7,23 +7,17 @@ use Rattle.mojette.specs.Meaning.{Shape, pixels_of, bins_of}
 use Rattle.peeling.specs.Counting.{number, least}
 use Rattle.peeling.specs.History.{History}
 use Rattle.peeling.specs.Law.{Run}
-use Rattle.peeling.specs.Steps.{World, most, append, lowered, take_off, take_off_all, placed, find, open_in, peeled, front, take, settle}
-use Rattle.peeling.proofs.Alone.{NoneOut, counts_told, number_told, Last, last, front_inside, front_granted, taken_run, turned_run, turned_none_out}
-use Rattle.peeling.proofs.Beside.{take_off_beside, take_off_all_beside, placed_beside, peeled_beside, take_beside, settle_beside, ahead}
-use Rattle.peeling.proofs.Invariant.{Kept}
-use Rattle.peeling.proofs.Outcome.{run_kept}
+use Rattle.peeling.specs.Steps.{World, most, append, lowered, take_off, take_off_all, placed, find, open_in, peeled}
+use Rattle.peeling.proofs.Alone.{counts_told, number_told, Last, last}
+use Rattle.peeling.proofs.Beside.{take_off_beside, placed_beside, ahead}
 use Rattle.peeling.proofs.Rests.{noted}
-use Rattle.law.specs.Life.{LongEnough}
 use Rattle.law.specs.Positions.{incidence}
-use Rattle.law.specs.Steps.{tables_of}
-use Rattle.law.specs.Turns.{turn}
-use Rattle.law.proofs.Turning.{turn_is, turn_none}
 use Rattle.notes.specs.declared.note.Note.{Note}
-use Rattle.notes.specs.Words.{note_plus, note_inverse, note_zero}
+use Rattle.notes.specs.Words.{note_zero}
 use Rattle.notes.specs.Notes.{notes, note_of_cell, pixels_noted, cell_noted}
 use Rattle.notes.specs.Twins.{with_counts, Follows, Tells, Telling}
 use Rattle.notes.specs.Offs.{summed_off, note_left, noted_off}
-use Rattle.notes.proofs.Counted.{pixels_less, pixels_of_cell, cell_of_cell, pixels_sum}
+use Rattle.notes.proofs.Counted.{pixels_less, cell_of_cell, pixels_sum}
 
 module _ {S : Type 0} (K : Operations S) (s : Shape) where
   abbrev T : ℕ

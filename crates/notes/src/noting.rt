@@ -1,5 +1,6 @@
 // The note table of a plan: of each bin the note of all its pixels, which are missing at first.
 ghost use Rattle.std.specs.Prelude.{◌≡◌, ℕ, ◌<◌, ◌≤◌, true, length, slice_index_or};
+ghost use Rattle.mojette.specs.Bounds.{most_step};
 ghost use Rattle.mojette.specs.Bins.{bins};
 ghost use Rattle.mojette.specs.Directions.{lawful};
 ghost use Rattle.mojette.specs.Meaning.{bins_of};
@@ -33,7 +34,7 @@ fn numbered() -> [Note; MOST_PIXELS]
 
 // The direction of a place.
 fn direction_of(place: Place) -> Direction
-    requires { (place.slope ≤ 7) × (place.q ≤ 7) }
+    requires { (place.slope ≤ most_step) × (place.q ≤ most_step) }
     ensures { result ≡ direction_of place }
 {
     let across = place.slope as i32;
@@ -45,7 +46,7 @@ fn direction_of(place: Place) -> Direction
 
 // Writes the notes of the bins of one place: its projection, or zeros where it is lost. (Size and place, which a plan holds apart.)
 fn note_place(size: Size, place: Place, tile: &[Note], notes: &mut [Note])
-    requires steps { (place.slope ≤ 7) × (place.q ≤ 7) }
+    requires steps { (place.slope ≤ most_step) × (place.q ≤ most_step) }
     requires direction { lawful (direction_of place) ≡ true }
     requires tile { Numbered tile.now }
     requires room { length notes.old ≡ bins size.columns size.rows (direction_of place) }

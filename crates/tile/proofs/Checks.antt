@@ -1,11 +1,7 @@
 -- The check of the tables, which comes first in a step.
-use Rattle.std.proofs.Common.{◌≡◌, ℕ, zero, suc, ◌<◌, ◌≤◌, cond, ltb, ◌⊎◌, None, Some, sym, refl, subst, ◌∙◌, inl, inr, arith}
+use Rattle.std.proofs.Common.{◌≡◌, ℕ, zero, suc, ◌<◌, ◌≤◌, cond, ltb, ◌⊎◌, None, sym, refl, ◌∙◌, inl, inr, arith}
 use Rattle.std.proofs.lemmas.Bool.{cases_lt, cond-true, cond-false, lt-ltb, le-ltb}
-use Rattle.mojette.specs.declared.fault.Table.{Table}
-use Rattle.mojette.specs.declared.fault.Table.TheVariants.{Picture, Marks, Sums, Counts, Queue}
-use Rattle.mojette.specs.Faults.{table_number}
 use Rattle.mojette.specs.Meaning.{Shape}
-use Rattle.mojette.specs.Refusals.{refusal}
 use Rattle.law.specs.Steps.{Tables, short}
 use Rattle.law.specs.Life.{LongEnough}
 use Rattle.tile.specs.Worlds.{short_refusal, refusal_at}
@@ -21,17 +17,6 @@ past a b n x e = go (cases_lt a b)
     go : (a < b) ⊎ (b ≤ a) → (b ≤ a) × (x ≡ 0)
     go (inl l) = let z : suc n ≡ 0 = sym (cond-true (ltb a b) (suc n) x (lt-ltb a b l)) ∙ e in absurd (omega arith)
     go (inr l) = (l, sym (cond-false (ltb a b) (suc n) x (le-ltb a b l)) ∙ e)
-
--- a table's refusal, by its number
-pub told : (t : Table) (n : ℕ) → table_number t ≡ n → Some (refusal 5 (table_number t) 0 0) ≡ short_refusal n
-told t n e = subst (λ n. Some (refusal 5 (table_number t) 0 0) ≡ short_refusal n) e (own t)
-  where
-    own : (t : Table) → Some (refusal 5 (table_number t) 0 0) ≡ short_refusal (table_number t)
-    own Picture = refl
-    own Marks = refl
-    own Sums = refl
-    own Counts = refl
-    own Queue = refl
 
 -- no table is too short
 pub all_long : {S : Type 0} (shape : Shape) (t : Tables S) → None ≡ short_refusal (short shape t) → LongEnough shape t

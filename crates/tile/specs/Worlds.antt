@@ -1,8 +1,6 @@
 -- What code that is lent the tables says of them.
-use Rattle.std.specs.Prelude.{◌≡◌, ℕ, zero, suc, cond, length, Some, None, Option, nat_le, nat_lt}
-use Rattle.mojette.specs.declared.fault.Table.{Table}
-use Rattle.mojette.specs.Faults.{table_number}
-use Rattle.mojette.specs.Meaning.{Shape, pixels_of, bins_of}
+use Rattle.std.specs.Prelude.{◌≡◌, ℕ, zero, suc, cond, length, Some, None, Option, nat_le}
+use Rattle.mojette.specs.Meaning.{Shape, bins_of}
 use Rattle.mojette.specs.Refusals.{Refusal, refusal}
 use Rattle.law.specs.Steps.{Tables}
 use Rattle.tile.specs.declared.lent.Tables.{Tables as Lent}
@@ -23,19 +21,6 @@ pub record StillLent {S : Type 0} (t t' : Lent S) : Type 0 where
   pub sums_size : length t'.sums.now ≡ length t.sums.now
   pub counts_size : length t'.counts.now ≡ length t.counts.now
   pub queue_size : length t'.queue.now ≡ length t.queue.now
-
--- the number of the first table that is too short, by the tables' lengths; 0 if none is
-abbrev pub first_short : Shape → ℕ → ℕ → ℕ → ℕ → ℕ → ℕ
-first_short shape picture marks sums counts queue =
-    cond (nat_lt picture (pixels_of shape)) 1
-    (cond (nat_lt marks (pixels_of shape)) 2
-    (cond (nat_lt sums (bins_of shape)) 3
-    (cond (nat_lt counts (bins_of shape)) 4
-    (cond (nat_lt queue (bins_of shape)) 5 0))))
-
-abbrev pub short_number : Option Table → ℕ
-short_number None = 0
-short_number (Some t) = table_number t
 
 -- the refusal where table n is the first that is too short; none for 0
 abbrev pub short_refusal : ℕ → Option Refusal

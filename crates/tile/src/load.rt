@@ -1,6 +1,7 @@
 // Loading the places of a source, one after another.
 ghost use Rattle.std.specs.Prelude.{◌≡◌, ◌+◌, ◌<◌, ◌≤◌, length};
 ghost use Rattle.law.specs.Steps.{written, fits};
+ghost use Rattle.mojette.specs.Bounds.{most_step};
 ghost use Rattle.plan.specs.Laid.{record_of};
 ghost use Rattle.plan.specs.Shapes.{shape, places_of};
 ghost use Rattle.source.specs.Questions.{bins_at};
@@ -36,7 +37,7 @@ fn write_place<S: Source>(source: &S, i: usize, from: usize, bins: usize, sums: 
 
 // The record of a place. (No `From`: a clause rules out places without one. `TryFrom` would hand callers an error that cannot happen.)
 fn record_of(place: Place) -> Record
-    requires { (place.slope ≤ 7) × (place.q ≤ 7) }
+    requires { (place.slope ≤ most_step) × (place.q ≤ most_step) }
     ensures { result ≡ record_of place }
 {
     let across = place.slope as i32;
