@@ -12,6 +12,10 @@ use Rattle.tile.specs.declared.states.Loading.{Loading}
 use Rattle.tile.specs.declared.states.Peeling.{Peeling}
 use Rattle.tile.specs.declared.states.Refused.{Refused}
 
+-- the position that a grant is for
+abbrev pub position_of : Grant → ℕ
+position_of grant = grant.position
+
 module _ {S : Type 0} where
   abbrev pub tables : List S → List ℕ → List S → List ℕ → List ℕ → Tables S
   tables picture marks sums counts queue = record { picture = picture; marks = marks; sums = sums; counts = counts; queue = queue }

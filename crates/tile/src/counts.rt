@@ -1,5 +1,6 @@
 // Reading the state of a tile that is peeled, and a grant.
 ghost use Rattle.std.specs.Prelude.{◌≡◌};
+ghost use Rattle.tile.specs.Outcomes.{position_of};
 
 use crate::states::{Grant, Peeling};
 
@@ -36,7 +37,7 @@ impl Peeling {
 impl Grant {
     // The position that is granted.
     pub fn position(&self) -> u16
-        ensures { result ≡ self.now.position }
+        ensures { result ≡ position_of self.now }
     {
         self.position
     }

@@ -2,6 +2,7 @@
 ghost use Rattle.std.specs.Prelude.{◌≡◌, ◌<◌, None};
 ghost use Rattle.mojette.specs.Meaning.{bins_of};
 ghost use Rattle.plan.specs.Shapes.{shape};
+ghost use Rattle.tile.specs.Outcomes.{position_of};
 
 use anyhow::Context;
 use mojette::Record;
@@ -14,7 +15,7 @@ use tile::{Grant, Peeling, open};
 pub struct Held {
     pub grant: Grant,
     pub plan: Plan,
-    ghost inside: { grant.position < bins_of (shape plan) },
+    ghost inside: { position_of grant < bins_of (shape plan) },
 }
 
 impl Held {

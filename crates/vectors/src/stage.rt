@@ -2,6 +2,7 @@
 ghost use Rattle.std.specs.Prelude.{◌≡◌, ◌<◌, None};
 ghost use Rattle.mojette.specs.Meaning.{bins_of};
 ghost use Rattle.plan.specs.Shapes.{shape};
+ghost use Rattle.tile.specs.Outcomes.{position_of};
 
 use crate::checksum::Checksum;
 use crate::shows::Failure;
@@ -192,7 +193,7 @@ impl Stage {
 
 // Refused, the grant goes back to its slot.
 fn kept(refusal: Refused<(Peeling, Grant)>, plan: Plan, slot: &mut Option<Held>) -> Played
-    requires inside { refusal.back.1.position < bins_of (shape plan) }
+    requires inside { position_of refusal.back.1 < bins_of (shape plan) }
     requires empty { slot.old ≡ None }
 {
     let Refused {
