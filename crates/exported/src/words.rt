@@ -1,7 +1,8 @@
 // Sum words and their numbers, cell by cell.
 
-ghost use Rattle.std.specs.Prelude.{◌≡◌, ℕ, ◌<◌, length, pos, slice_index_or};
+ghost use Rattle.std.specs.Prelude.{◌≡◌, ℕ, ◌<◌, length, slice_index_or};
 ghost use Rattle.samples.specs.Words.{sum_zero};
+ghost use Rattle.exported.specs.Places.{record_of};
 
 use mojette::{Direction, MOST_PLACES, MOST_SIDE, MOST_STEP, Record};
 use samples::SumWord;
@@ -35,7 +36,7 @@ pub(crate) fn numbers_of(words: &[SumWord], numbers: &mut [u16])
 
 // The record of place i, by the numbers of all places.
 pub(crate) fn record_at(p: &[i32], q: &[i32], causes: &[u8], i: usize) -> Record
-    ensures { result ≡ record { direction = record { p = slice_index_or p.now i (pos 0); q = slice_index_or q.now i (pos 0) }; cause = slice_index_or causes.now i 0 } }
+    ensures { result ≡ record_of p.now q.now causes.now i }
 {
     Record {
         direction: Direction {
