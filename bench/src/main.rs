@@ -78,22 +78,22 @@ fn projecting(name: &str, plain: fn(&Tile, &mut [u16], u32) -> usize) {
     );
 }
 
-fn rebuilding(side: usize, whole: usize) {
+fn rebuilding(side: usize, whole: usize, way: &str, plain: fn(&Tile, &mut Lent, u32) -> usize) {
     let times = (8 * 64 * 64 / (side * side)).min(64) as u32;
     let tile = Tile::of(side, side, whole);
     let (mut lent, mut others) = (Lent::of(&tile), Lent::of(&tile));
     assert_eq!(proved::rebuild(&tile, &mut lent, 1), side * side);
-    assert_eq!(unproved::rebuild(&tile, &mut others, 1), side * side);
+    assert_eq!(plain(&tile, &mut others, 1), side * side);
     assert_eq!(lent.picture, tile.picture);
     assert_eq!(others.picture, tile.picture);
     assert!(
         lent.marks == others.marks && lent.counts == others.counts && lent.queue == others.queue
     );
     compare(
-        &format!("rebuild, {side} by {side}, {whole} whole"),
+        &format!("rebuild, {side} by {side}, {whole} whole; plain {way}"),
         times,
         || proved::rebuild(black_box(&tile), black_box(&mut lent), times),
-        || unproved::rebuild(black_box(&tile), black_box(&mut others), times),
+        || plain(black_box(&tile), black_box(&mut others), times),
     );
 }
 
@@ -137,13 +137,14 @@ fn main() {
         unproved::project_rows,
     );
     for whole in [16, 12, 10] {
-        rebuilding(64, whole);
+        rebuilding(64, whole, "with searches", unproved::rebuild);
+        rebuilding(64, whole, "with notes", unproved::rebuild_noted);
     }
     reading();
     for side in [8, 16, 32, 64] {
-        rebuilding(side, 16);
+        rebuilding(side, 16, "with notes", unproved::rebuild_noted);
     }
     for side in [8, 16, 32, 64] {
-        rebuilding(side, 10);
+        rebuilding(side, 10, "with notes", unproved::rebuild_noted);
     }
 }

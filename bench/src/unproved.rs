@@ -7,7 +7,7 @@ use crate::plain::direction::{Direction, Fault, Record};
 use crate::plain::kind::SumWord;
 use crate::plain::plan::Plan;
 use crate::plain::source::{Rack, Source};
-use crate::plain::tile::Tables;
+use crate::plain::tile::{Finished, Tables};
 
 const MOST_PIXELS: usize = 64 * 64;
 
@@ -73,6 +73,24 @@ pub fn project_rows(tile: &Tile, sums: &mut [u16], times: u32) -> usize {
 
 #[inline(never)]
 pub fn rebuild(tile: &Tile, lent: &mut Lent, times: u32) -> usize {
+    rebuild_times(tile, lent, times, |rack, plan, tables| {
+        plain::tile::rebuild(rack, plan, tables)
+    })
+}
+
+#[inline(never)]
+pub fn rebuild_noted(tile: &Tile, lent: &mut Lent, times: u32) -> usize {
+    rebuild_times(tile, lent, times, |rack, plan, tables| {
+        plain::tile::rebuild_noted(rack, plan, tables)
+    })
+}
+
+fn rebuild_times(
+    tile: &Tile,
+    lent: &mut Lent,
+    times: u32,
+    rebuild: impl Fn(&Rack<SumWord>, &mut Plan, &mut Tables<SumWord>) -> Result<Finished, Fault>,
+) -> usize {
     let records: Vec<Record> = (0..tile.p.len())
         .map(|i| Record {
             direction: Direction {
@@ -100,7 +118,7 @@ pub fn rebuild(tile: &Tile, lent: &mut Lent, times: u32) -> usize {
             counts: &mut lent.counts,
             queue: &mut lent.queue,
         };
-        match plain::tile::rebuild(&rack, &mut plan, &mut tables) {
+        match rebuild(&rack, &mut plan, &mut tables) {
             Ok(finished) => pixels = finished.picture(&cells).map_or(0, |own| own.len()),
             Err(_) => return 0,
         }

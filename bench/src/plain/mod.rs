@@ -3,6 +3,7 @@
 pub mod bracket;
 pub mod direction;
 pub mod kind;
+pub mod notes;
 pub mod plan;
 pub mod project;
 pub mod source;

@@ -6,12 +6,12 @@ use super::plan::{Place, Plan};
 use super::source::{Sizes, Source, plan_of};
 use super::walk::{Pixel, bin_at, count_pixels, lone_pixel};
 
-struct State {
-    head: u32,
-    waiting: u32,
-    out: u32,
-    left: u32,
-    settled: u32,
+pub struct State {
+    pub head: u32,
+    pub waiting: u32,
+    pub out: u32,
+    pub left: u32,
+    pub settled: u32,
 }
 
 pub struct Loading {
@@ -19,7 +19,7 @@ pub struct Loading {
 }
 
 pub struct Peeling {
-    state: State,
+    pub state: State,
 }
 
 pub struct Finished {
@@ -99,7 +99,7 @@ impl<K: Kind> Tables<'_, K> {
 }
 
 /// n mod bins, with no division where n is below twice that.
-fn wrapped(n: usize, bins: usize) -> usize {
+pub fn wrapped(n: usize, bins: usize) -> usize {
     if n < bins {
         n
     } else if n - bins < bins {
@@ -109,7 +109,7 @@ fn wrapped(n: usize, bins: usize) -> usize {
     }
 }
 
-fn append(state: &mut State, queue: &mut [u16], bins: usize, at: usize) {
+pub fn append(state: &mut State, queue: &mut [u16], bins: usize, at: usize) {
     if (state.waiting as usize) < bins {
         let cell = wrapped(state.head as usize + state.waiting as usize, bins);
         queue[cell] = at as u16;
@@ -122,7 +122,7 @@ pub fn open<S: Source>(source: &S, plan: &mut Plan) -> Result<Loading, Fault> {
     Ok(Loading { loaded: 0 })
 }
 
-fn record_of(place: &Place) -> Record {
+pub fn record_of(place: &Place) -> Record {
     let across = place.slope as i32;
     Record {
         direction: Direction {
@@ -171,11 +171,12 @@ impl Loading {
         Ok(Loading { loaded: i + 1 })
     }
 
-    pub fn seal<K: Kind>(
+    /// What a seal asks first; where Katz's criterion fails the ghost is written.
+    pub fn accept<K: Kind>(
         self,
         plan: &Plan,
         tables: &mut Tables<K>,
-    ) -> Result<Peeling, Refused<Loading>> {
+    ) -> Result<(), Refused<Loading>> {
         if let Err(fault) = tables.check(plan) {
             return refused(self, fault);
         }
@@ -185,17 +186,28 @@ impl Loading {
             return refused(self, Fault::NotLoaded(missing));
         }
         match plan.show_ghost(tables.picture) {
-            Err(fault) => return refused(self, fault),
+            Err(fault) => refused(self, fault),
             Ok(criterion) if !criterion.enough => {
-                return refused(self, Fault::Ghost(criterion.columns, criterion.rows));
+                refused(self, Fault::Ghost(criterion.columns, criterion.rows))
             }
-            Ok(_) => {}
+            Ok(_) => Ok(()),
         }
+    }
+
+    pub fn seal<K: Kind>(
+        self,
+        plan: &Plan,
+        tables: &mut Tables<K>,
+    ) -> Result<Peeling, Refused<Loading>> {
+        let back = Loading {
+            loaded: self.loaded,
+        };
+        self.accept(plan, tables)?;
         let pixels = plan.pixels();
         tables.picture[..pixels].fill(K::zero());
         tables.marks[..pixels].fill(0);
         if let Err(fault) = count_pixels(plan, tables.counts) {
-            return refused(self, fault);
+            return refused(back, fault);
         }
         let mut state = State {
             head: 0,
@@ -307,4 +319,19 @@ pub fn rebuild<S: Source>(
             Err(refused) => return Ok(refused.back.finish(plan, tables.sums)?),
         }
     }
+}
+
+/// The same in one call after the loads, with a note beside each bin.
+pub fn rebuild_noted<S: Source>(
+    source: &S,
+    plan: &mut Plan,
+    tables: &mut Tables<S::Sample>,
+) -> Result<Finished, Fault> {
+    let mut tile = open(source, plan)?;
+    tables.check(plan)?;
+    for _ in 0..plan.places().len() {
+        tile = tile.load(source, plan, tables.sums)?;
+    }
+    let tile = tile.seal_and_peel(plan, tables)?;
+    Ok(tile.finish(plan, tables.sums)?)
 }

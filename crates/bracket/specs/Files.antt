@@ -1,5 +1,5 @@
 -- What a file that was read means, and what is told of a text that is no file.
-use Rattle.std.specs.Prelude.{Ok, Err, Result}
+use Rattle.std.specs.Prelude.{ℕ, List, Ok, Err, Result}
 use Rattle.samples.specs.declared.coded.Coded.{Ghosts as Codes}
 use Rattle.samples.specs.declared.kind.Kind.{Ghosts as Operations}
 use Rattle.mojette.specs.declared.fault.Fault.{Fault}
@@ -12,9 +12,13 @@ use Rattle.bracket.specs.Lines.{held_lines}
 use Rattle.bracket.specs.Means.{meaning_from}
 
 module _ {S : Type 0} {C : Codes S} {K : Operations S} where
+  -- the text of a file
+  abbrev pub text_of : BracketFile S C K → List ℕ
+  text_of f = f.text.now
+
   -- what a file means, read off what it holds: its text, with the size and the lines that were found in it
   abbrev pub file_meaning : BracketFile S C K → Meaning S
-  file_meaning f = meaning_from K C f.text.now f.size (held_lines f.lines)
+  file_meaning f = meaning_from K C (text_of f) f.size (held_lines f.lines)
 
   -- what a call that reads a text answered
   abbrev pub made : Result (BracketFile S C K) Fault → Outcome (Meaning S)

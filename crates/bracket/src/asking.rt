@@ -4,7 +4,7 @@ ghost use Rattle.std.specs.Option.{ok_or};
 ghost use Rattle.mojette.specs.declared.fault.Fault.TheVariants.{NoPlace};
 ghost use Rattle.format.specs.Format.{file, read_file};
 ghost use Rattle.format.specs.Laws.{OneText};
-ghost use Rattle.bracket.specs.Files.{file_meaning, made, asked_file};
+ghost use Rattle.bracket.specs.Files.{text_of, file_meaning, made, asked_file};
 ghost use Rattle.bracket.specs.Found.{found_at};
 ghost use Rattle.bracket.specs.Lines.{held_lines};
 
@@ -32,7 +32,7 @@ impl<'a, K: Coded> BracketFile<'a, K> {
     // Reads a text of any content and length as a file of a kind of sample. A lawful meaning has one such text, and all other text is refused.
     pub fn read(text: &'a [u8]) -> Result<BracketFile<'a, K>, Fault>
         ensures read { made result ≡ asked_file (read_file K.Coded.own text.now) }
-        ensures text { IfOk result (λ f. f.text.now ≡ text.now) }
+        ensures text { IfOk result (λ f. text_of f ≡ text.now) }
         ensures law { OneText K.Kind K.Coded.own }
     {
         one_text::<K>();
@@ -47,7 +47,7 @@ impl<'a, K: Coded> BracketFile<'a, K> {
 
     // The text, of which the meaning is what reading it gives.
     pub fn text(&self) -> &'a [u8]
-        ensures is { result.now ≡ self.now.text.now }
+        ensures is { result.now ≡ text_of self.now }
         ensures read { read_file K.Coded.own result.now ≡ file (file_meaning self.now) }
     {
         self.text

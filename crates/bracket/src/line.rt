@@ -1,5 +1,6 @@
 // The lines of a file. A file of its own, so that `specs/` can name the types.
 ghost use Rattle.std.specs.Prelude.{◌≤◌};
+ghost use Rattle.mojette.specs.Bounds.{most_places};
 
 use mojette::{Direction, MOST_PLACES};
 use std::num::NonZeroU8;
@@ -37,5 +38,5 @@ pub(crate) struct Line {
 pub(crate) struct Lines {
     pub table: [Line; MOST_PLACES],
     pub count: usize,
-    ghost few: { count ≤ 16 },
+    ghost few: { count ≤ most_places },
 }

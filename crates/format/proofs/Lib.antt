@@ -6,3 +6,6 @@ pub mod OfWords
 pub mod OfPlaces
 pub mod Written
 pub mod Reading
+pub mod Deciding
+pub mod LineEnds
+pub mod Wrong

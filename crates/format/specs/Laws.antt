@@ -6,6 +6,7 @@ use Rattle.samples.specs.declared.kind.Kind.{Ghosts as Operations}
 use Rattle.mojette.specs.Meaning.{Meaning, shape_of, Lawful}
 use Rattle.format.specs.Format.{most_cause, read_file, file}
 use Rattle.format.specs.Texts.{trimmed, file_text}
+use Rattle.format.specs.Wrong.{TellsWrong}
 
 abbrev pub Causes : {S : Type 0} → Meaning S → Type 0
 Causes m = AllByRecursion (λ x. x.entry.cause ≤ most_cause) m.places
@@ -26,7 +27,8 @@ module _ {S : Type 0} (K : Operations S) (C : Codes S) where
   abbrev pub WritesBack : Type 0
   WritesBack = (t : List ℕ) (m : Meaning S) → read_file C t ≡ file m → ToldBy t m
 
-  -- A lawful meaning has one text, and all other text is refused.
+  -- A lawful meaning has one text, and all other text is refused, at its first wrong token.
   pub record OneText : Type 0 where
     pub reads_back : ReadsBack
     pub writes_back : WritesBack
+    pub tells_wrong : TellsWrong C

@@ -3,6 +3,7 @@ pub mod Lawful
 pub mod Bezout
 pub mod Search
 pub mod Pixels
+pub mod Tested
 pub mod Edges
 pub mod Chain
 pub mod Order

@@ -1,26 +1,15 @@
--- Ghosts: tiles that are not zero although all their sums are; and Katz's theorem.
-use Rattle.std.specs.Prelude.{◌≡◌, ℕ, ◌*◌, ◌<◌, ◌↔◌, List, map, length, slice_index_or}
-use Rattle.std.specs.List.{AllByRecursion}
+-- Katz's theorem, on ghosts.
+use Rattle.std.specs.Prelude.{ℕ, ◌↔◌, List, map}
 use Rattle.samples.specs.declared.kind.Kind.{Ghosts as Operations}
-use Rattle.mojette.specs.declared.direction.Direction.{Direction}
 use Rattle.mojette.specs.declared.direction.Record.{Record}
-use Rattle.mojette.specs.Bins.{bins, whole_directions}
+use Rattle.mojette.specs.Bins.{whole_directions}
 use Rattle.mojette.specs.Directions.{LawfulDirections}
-use Rattle.mojette.specs.Transform.{bin_sum}
+pub use Rattle.mojette.specs.Ghosts.{Vanishes, Ghost}
 use Rattle.katz.specs.Sets.{Criterion}
 
 module _ {S : Type 0} (K : Operations S) where
-  -- all sums of a tile are zero, in every bin of every direction
-  abbrev pub Vanishes : ℕ → ℕ → List Direction → List S → Type 0
-  Vanishes P Q ds tile = AllByRecursion (λ d. (b : ℕ) → b < bins P Q d → bin_sum K P Q tile d b ≡ K.zero) ds
-
-  pub record Ghost (P Q : ℕ) (ds : List Direction) (tile : List S) : Type 0 where
-    pub size : length tile ≡ P * Q
-    pub vanishes : Vanishes P Q ds tile
-    pub nonzero : (c : ℕ) × (c < P * Q) × (¬ (slice_index_or tile c K.zero ≡ K.zero))
-
   -- Katz's theorem: the criterion fails exactly when the directions of the whole places have a ghost.
   abbrev pub Katz : Type 0
   Katz =
       (P Q : ℕ) (es : List Record) → LawfulDirections (map (λ e. e.direction) es)
-      → ((¬ (Criterion P Q (whole_directions es))) ↔ ((tile : List S) × Ghost P Q (whole_directions es) tile))
+      → ((¬ (Criterion P Q (whole_directions es))) ↔ ((tile : List S) × Ghost K P Q (whole_directions es) tile))

@@ -1,5 +1,5 @@
 -- Sets of pixels of a tile, how they meet the bins of a direction, and the theorems on them.
-use Rattle.std.specs.Prelude.{◌≡◌, ℕ, ◌+◌, ◌<◌, ◌≤◌, Bool, true, ◌⊎◌, List}
+use Rattle.std.specs.Prelude.{◌≡◌, ℕ, ◌+◌, ◌<◌, ◌≤◌, Bool, true, ◌||◌, ◌⊎◌, ◌↔◌, List, nat_le}
 use Rattle.std.specs.List.{ContainsAt as Has, AllByRecursion}
 use Rattle.mojette.specs.declared.direction.Direction.{Direction}
 use Rattle.mojette.specs.Directions.{LawfulDirections, columns, rows}
@@ -59,6 +59,14 @@ Spans =
 -- Katz's criterion for a tile of P columns and Q rows
 abbrev pub Criterion : ℕ → ℕ → List Direction → Type 0
 Criterion P Q ds = (P ≤ columns ds) ⊎ (Q ≤ rows ds)
+
+-- the test of the criterion
+abbrev pub enough : ℕ → ℕ → List Direction → Bool
+enough P Q ds = nat_le P (columns ds) || nat_le Q (rows ds)
+
+-- The test passes exactly where the criterion holds.
+abbrev pub Tested : Type 0
+Tested = (P Q : ℕ) (ds : List Direction) → (enough P Q ds ≡ true) ↔ Criterion P Q ds
 
 -- a pixel of S that is alone in its bin of one of the directions
 pub record Peelable (ds : List Direction) (S : Pixels) : Type 0 where

@@ -1,4 +1,5 @@
 pub mod Places
+pub mod Leftover
 pub mod Opening
 pub mod Agreement
 pub mod Sizes
@@ -11,3 +12,4 @@ pub mod Sealing
 pub mod Lives
 pub mod Outcome
 pub mod Worked
+pub mod Turning

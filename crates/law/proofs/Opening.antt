@@ -1,13 +1,14 @@
 -- Open finds no reason to refuse exactly where size, number and directions are right.
-use Rattle.std.proofs.Common.{◌≡◌, ℕ, suc, Bool, true, false, cond, ◌&&◌, leb, List, [], ◌∷◌, length, Some, None, Option, sym, refl, ◌∙◌, arith}
-use Rattle.std.proofs.lemmas.Bool.{and_parts, and_from, leb-true, le-leb}
+use Rattle.std.proofs.Common.{◌≡◌, ℕ, suc, Bool, true, false, cond, ◌&&◌, List, [], ◌∷◌, length, Some, None, Option, sym, refl, ◌∙◌, arith}
+use Rattle.std.proofs.lemmas.Bool.{and_parts, and_from}
 use Rattle.mojette.specs.declared.direction.Direction.{Direction}
 use Rattle.mojette.specs.declared.direction.Record.{Record}
 use Rattle.mojette.specs.Bounds.{most_side, most_places}
 use Rattle.mojette.specs.Directions.{lawful, all_lawful, in_order}
 use Rattle.mojette.specs.Meaning.{Shape, side_ok, number_ok, follows, places_verdict, verdict, Lawful}
 use Rattle.mojette.specs.Refusals.{Refusal}
-use Rattle.law.specs.Opening.{OneTo, directions_of, Opens, OpensExactly}
+use Rattle.mojette.proofs.Bounds.{within, is_within}
+use Rattle.law.specs.Opening.{directions_of, Opens, OpensExactly}
 
 -- a verdict of two checks: the second counts where the first passes
 passes : (t : Bool) (v : Option Refusal) (r : Refusal) → cond t v (Some r) ≡ None → (t ≡ true) × (v ≡ None)
@@ -17,14 +18,6 @@ passes false v r e = let z : ◌≡◌ {A = ℕ} 0 1 = cc in absurd (omega arith
 passed : (t : Bool) (v : Option Refusal) (r : Refusal) → t ≡ true → v ≡ None → cond t v (Some r) ≡ None
 passed true v r t≡ e = e
 passed false v r t≡ e = let z : ◌≡◌ {A = ℕ} 0 1 = cc in absurd (omega arith)
-
--- Sizes -----------------------------------------------------------------------------------------------------------
-
-within : (bound n : ℕ) → (leb 1 n && leb n bound) ≡ true → OneTo bound n
-within bound n e = let p = and_parts (leb 1 n) (leb n bound) e in record { least = leb-true 1 n p.0; most = leb-true n bound p.1 }
-
-is_within : (bound n : ℕ) → OneTo bound n → (leb 1 n && leb n bound) ≡ true
-is_within bound n w = and_from _ _ (le-leb 1 n w.least) (le-leb n bound w.most)
 
 -- Places ----------------------------------------------------------------------------------------------------------
 

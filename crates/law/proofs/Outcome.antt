@@ -19,6 +19,7 @@ use Rattle.law.specs.Law.{Refused, shown, ghosts_remain, T, Found, Waits, grants
 use Rattle.law.specs.Law.{WhileLoading as LoadingFacts, WhilePeeling as PeelingFacts}
 use Rattle.law.proofs.Agreement.{agrees_by_position, agrees_by_place}
 use Rattle.law.proofs.Lives.{WhileLoading, WhilePeeling, Kept, kept, peel_kept, peel_law, peel_facts, inside, take_is, settle_is, give_back_is, finish_is}
+use Rattle.law.proofs.Leftover.{tells_left}
 use Rattle.law.proofs.Opening.{opens_exactly}
 use Rattle.law.proofs.Refusing.{refusals_keep}
 use Rattle.law.proofs.Sealing.{criterion_holds, criterion_fails, seal_ghost, seal_accepted, seal_early}
@@ -199,4 +200,4 @@ module _ {S : Type 0} (K : Operations S) (m : Meaning S) where
   facts h finished t k = k
 
 pub law : {S : Type 0} (K : Operations S) → Law K
-law K = record { opens = opens_exactly; refusals = refusals_keep K; lives = λ m h stage t life. facts K m h stage t (kept K m life) }
+law K = record { opens = opens_exactly; refusals = refusals_keep K; left_over = tells_left K; lives = λ m h stage t life. facts K m h stage t (kept K m life) }

@@ -103,16 +103,24 @@ module _ (P Q : ℕ) where
       by_place (λ es x. lies_at P Q es c x) (λ e b. whole e && in_bin P Q e.direction c b) (λ e es x l. lies_here e es c x l) (λ e es y. lies_there e es c y)
       es n b l k
 
-  bin_here : (e : Record) (es : List Record) (x : ℕ) → x < B e → bin_at P Q (e ∷ es) x ≡ x
+  pub bin_here : (e : Record) (es : List Record) (x : ℕ) → x < B e → bin_at P Q (e ∷ es) x ≡ x
   unfolding bin_at
   bin_here e es x l = below (B e) x _ (bin_at P Q es) l
 
-  bin_there : (e : Record) (es : List Record) (y : ℕ) → bin_at P Q (e ∷ es) (B e + y) ≡ bin_at P Q es y
+  pub bin_there : (e : Record) (es : List Record) (y : ℕ) → bin_at P Q (e ∷ es) (B e + y) ≡ bin_at P Q es y
   unfolding bin_at
   bin_there e es y = beyond (B e) y _ (bin_at P Q es)
 
   pub bin_of_position : (es : List Record) (n b : ℕ) → n < length es → b < B (at es n) → bin_at P Q es (start P Q es n + b) ≡ b
   bin_of_position = by_place (bin_at P Q) (λ e b. b) bin_here bin_there
+
+  pub place_here : (e : Record) (es : List Record) (x : ℕ) → x < B e → place_at P Q (e ∷ es) x ≡ 0
+  unfolding place_at
+  place_here e es x l = below (B e) x 0 (λ y. suc (place_at P Q es y)) l
+
+  pub place_there : (e : Record) (es : List Record) (y : ℕ) → place_at P Q (e ∷ es) (B e + y) ≡ suc (place_at P Q es y)
+  unfolding place_at
+  place_there e es y = beyond (B e) y 0 (λ x. suc (place_at P Q es x))
 
   pub place_of : (es : List Record) (n b : ℕ) → n < length es → b < B (at es n) → place_at P Q es (start P Q es n + b) ≡ n
   unfolding place_at

@@ -1,10 +1,11 @@
 -- What a seal does, by the places loaded and Katz's criterion.
-use Rattle.std.proofs.Common.{◌≡◌, ℕ, ◌-◌, ◌<◌, ◌≤◌, true, false, ltb, leb, length, sym, subst, inl, inr, ⊎_elim}
-use Rattle.std.proofs.lemmas.Bool.{le-ltb, lt-ltb, leb-true, le-leb, both_ways, or_cases, or_left, or_right}
+use Rattle.std.proofs.Common.{◌≡◌, ℕ, ◌-◌, ◌<◌, ◌≤◌, true, false, ltb, length, sym, subst}
+use Rattle.std.proofs.lemmas.Bool.{le-ltb, lt-ltb}
 use Rattle.samples.specs.declared.kind.Kind.{Ghosts as Operations}
 use Rattle.mojette.specs.Meaning.{Shape, Meaning, shape_of}
 use Rattle.mojette.specs.Refusals.{refusal}
 use Rattle.katz.specs.Sets.{Criterion}
+use Rattle.katz.proofs.Tested.{tested, not_enough}
 use Rattle.peeling.specs.Steps.{seal as peel_seal}
 use Rattle.law.specs.Positions.{incidence}
 use Rattle.law.specs.Steps.{loading, Tables, done, refuse, peels_on, world_of, blank, short, criterion, C, R, with_ghost, seal}
@@ -25,16 +26,10 @@ none_short shape t long =
 module _ {S : Type 0} (K : Operations S) (m : Meaning S) where
   -- the criterion as it is tested
   pub criterion_holds : criterion (shape_of m) ≡ true → Criterion m.P m.Q (ds m)
-  criterion_holds e = ⊎_elim
-      (λ (t : leb m.P (C (shape_of m)) ≡ true). inl (leb-true _ _ t))
-      (λ (t : leb m.Q (R (shape_of m)) ≡ true). inr (leb-true _ _ t))
-      (or_cases _ _ e)
+  criterion_holds e = (tested m.P m.Q (ds m)).0 e
 
   pub criterion_fails : criterion (shape_of m) ≡ false → ¬ (Criterion m.P m.Q (ds m))
-  criterion_fails e c = both_ways (criterion (shape_of m)) e (⊎_elim
-      (λ (l : m.P ≤ C (shape_of m)). or_left (leb m.P (C (shape_of m))) _ (le-leb _ _ l))
-      (λ (l : m.Q ≤ R (shape_of m)). or_right (leb m.P (C (shape_of m))) _ (le-leb _ _ l))
-      c)
+  criterion_fails e = not_enough m.P m.Q (ds m) e
 
   module _ (n : ℕ) (t : Tables S) (long : LongEnough (shape_of m) t) where
     pub seal_early : n < length m.places → seal K (shape_of m) n t ≡ refuse (loading n) t (refusal 8 (length (shape_of m).records - n) 0 0)

@@ -9,6 +9,7 @@ use Rattle.peeling.specs.History.{missing, missing_in, waits, out, settles}
 use Rattle.peeling.specs.History.{settled as settled_at}
 use Rattle.law.specs.Positions.{incidence}
 use Rattle.law.specs.Steps.{Stage, loading, peeling, finished, Tables, Answer, done, granted, settled, refused, Outcome, C, R, with_ghost, seal, take, settle, give_back, finish, load}
+use Rattle.law.specs.Leftover.{TellsLeft}
 use Rattle.law.specs.Opening.{OpensExactly}
 use Rattle.law.specs.Life.{Call, History, loaded_places, since_seal, Does, Life, seals}
 
@@ -124,9 +125,10 @@ RefusalsKeep {S} K = (shape : Shape) (m : Meaning S) (c : Call) (stage : Stage) 
     (r : Refusal) → o.answer ≡ refused r →
     (o.stage ≡ stage) × ((o.tables ≡ t) ⊎ ((c ≡ seals) × (r ≡ refusal 9 (C shape) (R shape) 0) × (o.tables ≡ with_ghost K shape t)))
 
--- The law, for a kind of sample: which meanings are opened; what a refused call leaves; and whatever a source means,
+-- The law, for a kind of sample: which meanings are opened; what a refused call leaves; which sum is told as left over; and whatever a source means,
 -- whatever calls a tile has met since the open that gave it, in whatever order and number, the facts hold.
 pub record Law {S : Type 0} (K : Operations S) : Type 0 where
   pub opens : OpensExactly
   pub refusals : RefusalsKeep K
+  pub left_over : (shape : Shape) → TellsLeft K shape
   pub lives : (m : Meaning S) (h : History) (stage : Stage) (t : Tables S) → Life K m h stage t → Facts K m h stage t

@@ -1,14 +1,10 @@
 -- Which meanings open serves, whatever the order of its checks.
-use Rattle.std.specs.Prelude.{ℕ, ◌≤◌, ◌↔◌, List, map, length}
+use Rattle.std.specs.Prelude.{◌↔◌, List, map, length}
 use Rattle.mojette.specs.declared.direction.Direction.{Direction}
 use Rattle.mojette.specs.declared.direction.Record.{Record}
-use Rattle.mojette.specs.Bounds.{most_side, most_places}
+use Rattle.mojette.specs.Bounds.{most_side, most_places, OneTo}
 use Rattle.mojette.specs.Directions.{LawfulDirections}
 use Rattle.mojette.specs.Meaning.{Shape, Lawful}
-
-pub record OneTo (bound n : ℕ) : Type 0 where
-  pub least : 1 ≤ n
-  pub most : n ≤ bound
 
 abbrev pub directions_of : List Record → List Direction
 directions_of es = map (λ e. e.direction) es

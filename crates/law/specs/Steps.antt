@@ -1,12 +1,14 @@
 -- What each call on a tile makes of its stage and its tables, and what it answers.
-use Rattle.std.specs.Prelude.{ℕ, zero, suc, ◌+◌, ◌-◌, Bool, cond, not, ◌&&◌, ◌||◌, List, [], length, pos, Some, None, Option, ◌==◌, nat_le, nat_lt, slice_index_or, slice_set}
+use Rattle.std.specs.Prelude.{ℕ, zero, suc, ◌+◌, ◌-◌, Bool, cond, not, ◌&&◌, List, length, Some, None, Option, ◌==◌, nat_le, nat_lt, slice_index_or, slice_set}
 use Rattle.samples.specs.declared.kind.Kind.{Ghosts as Operations}
 use Rattle.mojette.specs.declared.direction.Record.{Record}
 use Rattle.mojette.specs.Bins.{bins, whole, start, whole_directions}
 use Rattle.mojette.specs.Directions.{equal, columns, rows}
 use Rattle.mojette.specs.Meaning.{Shape, Place, Meaning, pixels_of, bins_of}
+pub use Rattle.mojette.specs.Meaning.{no_record, no_place}
 use Rattle.mojette.specs.Refusals.{Refusal, refusal}
 use Rattle.katz.specs.Made.{made, cell_of}
+use Rattle.katz.specs.Sets.{enough}
 use Rattle.peeling.specs.declared.state.State.{State}
 use Rattle.peeling.specs.Counting.{number, least}
 use Rattle.peeling.specs.Steps.{World, filled, open_in, Taken, none_waits, bad_cell, grants, take_answers, Finished, pixels_missing, grants_out, left_over, finish_answers}
@@ -81,13 +83,6 @@ checked (suc k) stage t outcome = refuse stage t (refusal 5 (suc k) 0 0)
 
 -- Load ----------------------------------------------------------------------------------------------------------
 
--- what a shape and a source say of a place that they do not have
-abbrev pub no_record : Record
-no_record = record { direction = record { p = pos 0; q = pos 1 }; cause = 0 }
-
-abbrev pub no_place : {S : Type 0} → Place S
-no_place = record { entry = no_record; sums = [] }
-
 abbrev pub same_record : Record → Record → Bool
 same_record e f = equal e.direction.p f.direction.p && (equal e.direction.q f.direction.q && e.cause == f.cause)
 
@@ -113,7 +108,7 @@ R shape = rows (whole_directions shape.records)
 
 -- Katz's criterion
 abbrev pub criterion : Shape → Bool
-criterion shape = nat_le shape.P (C shape) || nat_le shape.Q (R shape)
+criterion shape = enough shape.P shape.Q (whole_directions shape.records)
 
 -- the peeling state before it is set up
 abbrev pub blank : State

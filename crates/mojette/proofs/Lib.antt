@@ -1,3 +1,4 @@
+pub mod Bounds
 pub mod Equal
 pub mod Euclid
 pub mod Products

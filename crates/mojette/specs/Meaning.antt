@@ -1,13 +1,14 @@
 -- What a source means: the size of a tile, its places, and the sums of the places that are whole.
 -- Which meanings are lawful, which tiles agree with one, and which tiles vanish in it.
-use Rattle.std.specs.Prelude.{◌≡◌, ℕ, suc, ◌*◌, ◌<◌, Bool, true, cond, ◌&&◌, List, [], ◌∷◌, map, length, Some, None, Option, nat_le, slice_index_or}
+use Rattle.std.specs.Prelude.{◌≡◌, ℕ, suc, ◌*◌, ◌<◌, Bool, true, cond, ◌&&◌, List, [], ◌∷◌, map, length, pos, Some, None, Option, nat_le, slice_index_or}
 use Rattle.std.specs.List.{AllByRecursion}
 use Rattle.samples.specs.declared.kind.Kind.{Ghosts as Operations}
 use Rattle.mojette.specs.declared.direction.Direction.{Direction}
 use Rattle.mojette.specs.declared.direction.Record.{Record}
 use Rattle.mojette.specs.Bounds.{most_side, most_places}
 use Rattle.mojette.specs.Directions.{lawful, before}
-use Rattle.mojette.specs.Bins.{bins, whole, all_bins}
+use Rattle.mojette.specs.Bins.{bins, whole, all_bins, whole_directions}
+use Rattle.mojette.specs.Ghosts.{Ghost as DirectionGhost}
 use Rattle.mojette.specs.Refusals.{Refusal, refusal}
 use Rattle.mojette.specs.Transform.{bin_sum}
 
@@ -26,6 +27,13 @@ pub record Meaning (S : Type 0) : Type 0 where
   pub P : ℕ
   pub Q : ℕ
   pub places : List (Place S)
+
+-- what a list of records, or of places, says beyond its end
+abbrev pub no_record : Record
+no_record = record { direction = record { p = pos 0; q = pos 1 }; cause = 0 }
+
+abbrev pub no_place : {S : Type 0} → Place S
+no_place = record { entry = no_record; sums = [] }
 
 abbrev pub shape_of : {S : Type 0} → Meaning S → Shape
 shape_of m = record { P = m.P; Q = m.Q; records = map (λ x. x.entry) m.places }
@@ -83,9 +91,5 @@ module _ {S : Type 0} (K : Operations S) (m : Meaning S) where
         → bin_sum K m.P m.Q tile x.entry.direction b ≡ slice_index_or x.sums b K.zero) m.places
 
   -- A ghost is a tile that is not zero, and sums to zero in every bin of every whole place.
-  pub record Ghost (tile : List S) : Type 0 where
-    pub size : length tile ≡ m.P * m.Q
-    pub vanishes :
-        AllByRecursion (λ x. whole x.entry ≡ true → (b : ℕ) → b < bins m.P m.Q x.entry.direction
-        → bin_sum K m.P m.Q tile x.entry.direction b ≡ K.zero) m.places
-    pub nonzero : (c : ℕ) × (c < m.P * m.Q) × (¬ (slice_index_or tile c K.zero ≡ K.zero))
+  abbrev pub Ghost : List S → Type 0
+  Ghost tile = DirectionGhost K m.P m.Q (whole_directions (shape_of m).records) tile

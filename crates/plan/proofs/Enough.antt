@@ -1,10 +1,10 @@
 -- Katz's criterion of a plan, and what follows of it.
 use Rattle.std.proofs.Common.{◌≡◌, ℕ, ◌<◌, true, false, leb, ◌⊎◌, List, length, take, drop, is_some, sym, ap, ◌∙◌, subst, inl, inr, arith}
 use Rattle.std.proofs.lemmas.List.{take_at}
-use Rattle.std.proofs.lemmas.Bool.{cases_Bool, leb-true, leb-false, or_cases, or_parts}
+use Rattle.std.proofs.lemmas.Bool.{cases_Bool, leb-false, or_parts}
 use Rattle.samples.specs.declared.kind.Kind.{Ghosts as Operations}
 use Rattle.mojette.specs.Bins.{whole}
-use Rattle.mojette.specs.Directions.{columns, rows}
+use Rattle.mojette.specs.Directions.{columns}
 use Rattle.mojette.specs.Meaning.{Shape, pixels_of, verdict}
 use Rattle.katz.specs.Ghosts.{Ghost}
 use Rattle.katz.specs.Made.{leftward, ghost_tile}
@@ -13,6 +13,7 @@ use Rattle.katz.proofs.Boxes.{both_parts}
 use Rattle.katz.proofs.Katz.{katz}
 use Rattle.katz.proofs.Made.{ghost_is_made}
 use Rattle.katz.proofs.Order.{whole_lawful}
+use Rattle.katz.proofs.Tested.{tested, not_enough}
 use Rattle.plan.specs.declared.places.Place.{Place}
 use Rattle.plan.specs.declared.plan.Plan.{Plan}
 use Rattle.plan.specs.Criteria.{whole_of, criterion_of, KatzHolds}
@@ -24,23 +25,9 @@ use Rattle.plan.proofs.Reaching.{columns_total, over, over_whole, over_part}
 use Rattle.plan.proofs.Lawful.{lawful_directions}
 
 module _ (s : Shape) where
-  reached : (criterion_of s).enough ≡ true → Criterion s.P s.Q (whole_of s)
-  reached e = go (or_cases (leb s.P (columns (whole_of s))) (leb s.Q (rows (whole_of s))) e)
-    where
-      go : (leb s.P (columns (whole_of s)) ≡ true) ⊎ (leb s.Q (rows (whole_of s)) ≡ true) → Criterion s.P s.Q (whole_of s)
-      go (inl h) = inl (leb-true s.P _ h)
-      go (inr h) = inr (leb-true s.Q _ h)
-
   module _ (fails : (criterion_of s).enough ≡ false) where
     few_columns : columns (whole_of s) < s.P
     few_columns = leb-false s.P _ (or_parts (leb s.P (columns (whole_of s))) _ fails).0
-
-    few_rows : rows (whole_of s) < s.Q
-    few_rows = leb-false s.Q _ (or_parts (leb s.P (columns (whole_of s))) _ fails).1
-
-    not_reached : ¬ (Criterion s.P s.Q (whole_of s))
-    not_reached (inl h) = omega (arith, few_columns)
-    not_reached (inr h) = omega (arith, few_rows)
 
     -- The spark stands in the tile.
     pub spark_inside : leftward (whole_of s) < s.P
@@ -50,15 +37,15 @@ module _ (s : Shape) where
     pub katz_holds : KatzHolds K s (criterion_of s).enough
     katz_holds =
         let theorem = katz K s.P s.Q s.records (lawful_directions s law) in
-        (λ e. theorem.0 (not_reached e), λ ghost. go (theorem.1 ghost) (cases_Bool (criterion_of s).enough))
+        (λ e. theorem.0 (not_enough s.P s.Q (whole_of s) e), λ ghost. go (theorem.1 ghost) (cases_Bool (criterion_of s).enough))
       where
         go : ¬ (Criterion s.P s.Q (whole_of s)) → ((criterion_of s).enough ≡ true) ⊎ ((criterion_of s).enough ≡ false) → (criterion_of s).enough ≡ false
-        go none (inl t) = absurd (none (reached t))
+        go none (inl t) = absurd (none ((tested s.P s.Q (whole_of s)).0 t))
         go none (inr t) = t
 
     pub ghost_stands : (criterion_of s).enough ≡ false → (old new : List S) → new ≡ ghosted K s old → HoldsGhost K s new
     ghost_stands fails old new e =
-        let ghost = (ghost_is_made K s.P s.Q (whole_of s) (whole_lawful s.records (lawful_directions s law)) (not_reached fails)).ghost in
+        let ghost = (ghost_is_made K s.P s.Q (whole_of s) (whole_lawful s.records (lawful_directions s law)) (not_enough s.P s.Q (whole_of s) fails)).ghost in
         subst (Ghost K s.P s.Q (whole_of s))
         (sym (ap (take (pixels_of s)) e ∙ take_at (ghost_tile K s.P s.Q (whole_of s)) (drop (pixels_of s) old) (pixels_of s) ghost.size)) ghost
 

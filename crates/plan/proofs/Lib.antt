@@ -9,3 +9,4 @@ pub mod Reaching
 pub mod Shows
 pub mod Taking
 pub mod Verdicts
+pub mod Wrong

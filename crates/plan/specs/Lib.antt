@@ -1,6 +1,7 @@
 pub mod Laid
 pub mod Shapes
 pub mod Layouts
+pub mod Wrong
 pub mod Projecting
 pub mod Sums
 pub mod Criteria

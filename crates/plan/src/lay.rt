@@ -1,6 +1,7 @@
 // Laying out a place of a tile.
 ghost use Rattle.std.specs.Prelude.{◌≡◌, ◌+◌, ◌*◌, ◌<◌, ◌≤◌};
 ghost use Rattle.mojette.specs.Bins.{bins};
+ghost use Rattle.mojette.specs.Bounds.{most_step};
 ghost use Rattle.plan.specs.Laid.{laid, direction_of, bin_number};
 
 use crate::places::Place;
@@ -34,7 +35,7 @@ impl Place {
     // The bin of the pixel in column k and row l; a projection asks for the first column of each row. (Size and place, as for `lay`.)
     pub(crate) fn bin_of(self, size: Size, k: usize, l: usize) -> usize
         requires pixel { (k < size.columns) × (l < size.rows) }
-        requires steps { (self.q ≤ 7) × (self.slope ≤ 7) }
+        requires steps { (self.q ≤ most_step) × (self.slope ≤ most_step) }
         ensures value { result ≡ bin_number size.columns size.rows self k l }
         ensures inside { result < bins size.columns size.rows (direction_of self) }
     {

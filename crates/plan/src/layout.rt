@@ -1,9 +1,11 @@
 // Making a plan of a tile's shape.
 ghost use Rattle.std.specs.Prelude.{◌≡◌, ◌≤◌, length, None};
+ghost use Rattle.mojette.specs.Bounds.{most_places};
 ghost use Rattle.mojette.specs.Faults.{refused};
 ghost use Rattle.mojette.specs.Meaning.{places_verdict};
 ghost use Rattle.plan.specs.Layouts.{Plans};
 ghost use Rattle.plan.specs.Shapes.{shape};
+ghost use Rattle.plan.specs.Wrong.{FirstWrong};
 
 use crate::lay::lay;
 use crate::places::Place;
@@ -30,7 +32,7 @@ fn check_places(records: &[Record]) -> Result<(), Fault>
 
 // The plan of a lawful shape.
 fn lay_out(size: Size, records: &[Record]) -> Plan
-    requires number { (1 ≤ length records.now) × (length records.now ≤ 16) }
+    requires number { (1 ≤ length records.now) × (length records.now ≤ most_places) }
     requires places { places_verdict 0 None records.now ≡ None }
     ensures { shape result ≡ record { P = size.columns; Q = size.rows; records = records.now } }
 {
@@ -60,9 +62,10 @@ fn lay_out(size: Size, records: &[Record]) -> Plan
 }
 
 impl Plan {
-    // The plan of a shape, or why it is not lawful. Any two numbers may be asked for.
+    // The plan of a shape, or why it is not lawful: which place is the first that is wrong, and how. Any two numbers may be asked for.
     pub fn of(columns: usize, rows: usize, records: &[Record]) -> Result<Plan, Fault>
-        ensures { Plans (record { P = columns; Q = rows; records = records.now }) result }
+        ensures plan { Plans (record { P = columns; Q = rows; records = records.now }) result }
+        ensures first { FirstWrong (record { P = columns; Q = rows; records = records.now }) (refused result) }
     {
         let size = Size::of(columns, rows)?;
         if records.len() < 1 || records.len() > MOST_PLACES {

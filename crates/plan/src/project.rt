@@ -1,6 +1,7 @@
 // The Mojette projection of a picture along one direction, written once for every kind of sample.
 ghost use Rattle.std.specs.Prelude.{◌≡◌, ◌*◌, ◌≤◌, true, ◌++◌, length, drop};
 ghost use Rattle.mojette.specs.Bins.{bins};
+ghost use Rattle.mojette.specs.Bounds.{most_step};
 ghost use Rattle.mojette.specs.Directions.{lawful};
 ghost use Rattle.mojette.specs.Faults.{outcome};
 ghost use Rattle.mojette.specs.Transform.{projection};
@@ -17,7 +18,7 @@ use samples::Kind;
 // Adds each sample of the picture to the sum of its bin, in the order of the cells. The bins of a row come q apart, the first column's last, so that
 // one number steps down them. (Size and place, as for `lay`.)
 fn add_up<K: Kind>(size: Size, place: Place, picture: &[K], sums: &mut [K])
-    requires small { (place.slope ≤ 7) × (place.q ≤ 7) }
+    requires small { (place.slope ≤ most_step) × (place.q ≤ most_step) }
     requires room { (size.columns * size.rows ≤ length picture.now) × (bins size.columns size.rows (direction_of place) ≤ length sums.old) }
     requires clear { SumUpTo K.Kind size.columns size.rows (direction_of place) picture.now 0 sums.old }
     ensures sums { SumUpTo K.Kind size.columns size.rows (direction_of place) picture.now (size.columns * size.rows) sums.new }

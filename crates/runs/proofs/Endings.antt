@@ -6,25 +6,26 @@ use Rattle.mojette.specs.Faults.{refusal_of}
 use Rattle.mojette.specs.Meaning.{Meaning, Ghost, Lawful, verdict, shape_of, bins_of, pixels_of}
 use Rattle.mojette.specs.Refusals.{Refusal, refusal}
 use Rattle.peeling.specs.History.{out, missing}
-use Rattle.peeling.specs.Steps.{first_left_over, finish_answers, left_over, Finished}
+use Rattle.peeling.specs.Steps.{World, first_left_over, finish_answers, left_over}
+use Rattle.peeling.specs.Steps.{seal as peel_seal}
 use Rattle.peeling.specs.Steps as peel
 use Rattle.peeling.proofs.Counts.{tally_zero, number_zero}
 use Rattle.plan.specs.declared.plan.Plan.{Plan}
 use Rattle.plan.specs.Shapes.{shape}
 use Rattle.law.specs.Law.{T, Found, grants_of, shown, ghosts_remain, WhileLoading, WhilePeeling}
-use Rattle.law.specs.Life.{History, Life, born, event, loaded_places, since_seal, LongEnough}
+use Rattle.law.specs.Life.{History, Life, born, then, seal_does, event, loaded_places, since_seal, LongEnough}
 use Rattle.law.specs.Life as calls
 use Rattle.law.specs.Positions.{incidence, place_at, bin_at}
-use Rattle.law.specs.Steps.{loading, peeling, finished, Tables, done, refused, Outcome, world_of, criterion, C, R, short, seal, finish, finish_outcome}
+use Rattle.law.specs.Steps.{loading, peeling, finished, Tables, Answer, done, granted, settled, refused, Outcome, peels_on, world_of, blank, criterion, C, R, short, seal, finish, finish_outcome}
+use Rattle.law.specs.Turns.{state_of, turns, peeled_out, seal_and_peel, loaded}
 use Rattle.law.proofs.Lives.{kept, finish_is}
 use Rattle.law.proofs.Outcome.{law}
 use Rattle.law.proofs.Sealing.{none_short, seal_ghost, seal_accepted}
 use Rattle.tile.specs.declared.states.Finished.{Finished as FinishedTile}
-use Rattle.tile.specs.declared.states.Grant.{Grant}
 use Rattle.tile.specs.declared.states.Loading.{Loading}
 use Rattle.tile.specs.declared.states.Peeling.{Peeling}
 use Rattle.tile.specs.declared.states.Refused.{Refused}
-use Rattle.tile.specs.Calls.{Seals, Finishes}
+use Rattle.tile.specs.Calls.{Seals, SealsAndPeels, Finishes}
 use Rattle.tile.specs.Outcomes.{tables, seal_outcome}
 use Rattle.tile.specs.Outcomes as outcomes
 use Rattle.tile.specs.Worlds.{short_refusal}
@@ -32,13 +33,23 @@ use Rattle.tile.proofs.Checks.{all_long}
 use Rattle.tile.proofs.Living.{calls_live}
 use Rattle.runs.specs.Rebuilding.{Ready, Rebuilds, unlawful, too_short, ghosted, contradicted, rebuilt, CanBeRebuilt, Served, ServesExactly, served, refuses}
 use Rattle.runs.specs.Rebuilding as answers
-use Rattle.runs.specs.Runs.{LoadsAll, AllLoaded, PeelsAll, AllPeeled, AtRest}
-use Rattle.runs.specs.Turns.{loaded}
+use Rattle.runs.specs.Runs.{LoadsAll, AllLoaded}
 use Rattle.runs.specs.Worker.{one_worker, with_tables, sealing, finishing, ends}
-use Rattle.runs.proofs.Turns.{not_both}
+use Rattle.runs.proofs.Turns.{not_both, Free, Rest, all_peeled}
 
 same_refusal : {r s : Refusal} → refused r ≡ refused s → r ≡ s
 same_refusal {r} {s} e = cc
+
+-- Where sealing and peeling is refused, it is the seal that is.
+only_seals : {S : Type 0} (K : Operations S) (plan : Plan) (x : Loading) (t t' : Tables S) (r : Refused Loading) → SealsAndPeels K plan x t (Err r) t' → Seals K plan x t (Err r) t'
+unfolding seal_and_peel
+only_seals {S} K plan x t t' r e = go (seal K (shape plan) x.loaded t) (seal K (shape plan) x.loaded t).answer e
+  where
+    go : (o : Outcome S) (a : Answer) → seal_outcome (Err r) t' ≡ peeled_out K (shape plan) a o → seal_outcome (Err r) t' ≡ o
+    go o done e = absurd (not_both {a = done} {b = refused (refusal_of r.fault)} refl refl (sym (ap (λ o. o.answer) e)))
+    go o (granted b) e = e
+    go o (settled c n) e = e
+    go o (refused q) e = e
 
 module _ {S : Type 0} (K : Operations S) (m : Meaning S) (plan : Plan) (own : shape plan ≡ shape_of m) (before : Tables S) (ready : Ready K m before) where
   -- Seal ----------------------------------------------------------------------------------------------------------------
@@ -70,22 +81,51 @@ module _ {S : Type 0} (K : Operations S) (m : Meaning S) (plan : Plan) (own : sh
             (λ holds. absurd (not_both {a = done} {b = ghosts_remain K m} refl refl (sym (ap (λ o. o.answer) (seal_accepted K m x.loaded t (kept K m life).long enough holds)) ∙ ghost)))
             (λ fails. fails) (cases_Bool (criterion (shape_of m)))
 
-    module _ (y : Peeling) (e : Seals K plan x t (Ok y) t') where
-      sealed : Life K m (event calls.seals done ∷ h) (peeling y.state) t'
-      sealed = ((calls_live K).seals plan x t (Ok y) t' e).own m h own life tt
+    module _ (y : Peeling) (e : SealsAndPeels K plan x t (Ok y) t') where
+      criterion_holds : criterion (shape_of m) ≡ true
+      unfolding seal_and_peel
+      criterion_holds = ⊎_elim (λ holds. holds)
+          (λ fails.
+          let ghost = seal_ghost K m x.loaded t (kept K m life).long enough fails in
+          absurd (not_both {a = done} {b = ghosts_remain K m} refl refl
+          (ap (λ o. o.answer) (e ∙ ap (λ s. seal_and_peel K s x.loaded t) own ∙ ap (λ o. peeled_out K (shape_of m) o.answer o) ghost))))
+          (cases_Bool (criterion (shape_of m)))
+
+      -- the tile that was sealed
+      begun : World S
+      begun = peel_seal K (incidence (shape_of m)) (world_of blank t)
+
+      accepted : seal K (shape_of m) x.loaded t ≡ peels_on begun done
+      unfolding begun
+      accepted = seal_accepted K m x.loaded t (kept K m life).long enough criterion_holds
 
       none_out_yet : (b : ℕ) → grants_of K m (event calls.seals done ∷ h) b ≡ 0
       unfolding since_seal out
       none_out_yet b = refl
 
-      criterion_holds : criterion (shape_of m) ≡ true
-      criterion_holds = ⊎_elim (λ holds. holds)
-          (λ fails. absurd (not_both {a = done} {b = ghosts_remain K m} refl refl
-          (ap (λ o. o.answer) (step (seal_outcome (Ok y) t') e) ∙ ap (λ o. o.answer) (seal_ghost K m x.loaded t (kept K m life).long enough fails))))
-          (cases_Bool (criterion (shape_of m)))
+      free : Free K m begun
+      free = record {
+        history = event calls.seals done ∷ h;
+        life = subst (λ o. Life K m (event calls.seals o.answer ∷ h) o.stage o.tables) accepted (then life seal_does tt);
+        none = none_out_yet;
+      }
+
+      peeled_so : world_of y.state t' ≡ turns K (shape_of m) (T K m) begun
+      unfolding seal_and_peel
+      peeled_so = ap (λ o. world_of (state_of o.stage blank) o.tables)
+          (e ∙ ap (λ s. seal_and_peel K s x.loaded t) own ∙ ap (λ o. peeled_out K (shape_of m) o.answer o) accepted)
+
+      at_rest : Rest K m (world_of y.state t')
+      at_rest = subst (Rest K m) (sym peeled_so) (all_peeled K m begun free)
 
   -- Finish --------------------------------------------------------------------------------------------------------------
-  module _ (holds : criterion (shape_of m) ≡ true) (x : Peeling) (t : Tables S) (h : History) (life : Life K m h (peeling x.state) t) (rest : AtRest K m h) where
+  module _ (holds : criterion (shape_of m) ≡ true) (x : Peeling) (t : Tables S) (rest : Rest K m (world_of x.state t)) where
+    abbrev h : History
+    h = rest.free.history
+
+    life : Life K m h (peeling x.state) t
+    life = rest.free.life
+
     facts : WhilePeeling K m h x.state t
     facts = (law K).lives m h (peeling x.state) t life
 
@@ -93,14 +133,14 @@ module _ {S : Type 0} (K : Operations S) (m : Meaning S) (plan : Plan) (own : sh
     all_found c l = ⊎_elim
         (λ miss.
         let w = facts.goes_on c l miss in
-        absurd (⊎_elim (λ waits. rest.1 w.0 w.1 waits) (λ held. omega (arith, rest.0 w.0)) w.3))
+        absurd (⊎_elim (λ waits. rest.idle w.0 w.1 waits) (λ held. omega (arith, rest.free.none w.0)) w.3))
         (λ found. found) (cases_Bool (missing (incidence (shape_of m)) (since_seal h) c))
 
     none_missing : x.state.left ≡ 0
     none_missing = facts.left_is ∙ number_zero (m.P * m.Q) _ all_found
 
     none_held : x.state.out ≡ 0
-    none_held = facts.out_is ∙ tally_zero (T K m) _ (λ b l. rest.0 b)
+    none_held = facts.out_is ∙ tally_zero (T K m) _ (λ b l. rest.free.none b)
 
     does : finish K (shape_of m) x.state t ≡ finish_outcome K (shape_of m) x.state t (finish_answers K (bins_of (shape_of m)) x.state t.sums)
     does = finish_is K m h x.state t (kept K m life)
@@ -142,7 +182,7 @@ module _ {S : Type 0} (K : Operations S) (m : Meaning S) (plan : Plan) (own : sh
         subst (λ a. Rebuilds K m before (refuses a) t) (sym w.2)
         (contradicted ready holds (h, life) (answer ∙ ap refused w.2)
         (λ tile agrees. not_both {a = done} {b = refused (refusal_of r.fault)} refl refl
-        (sym ((facts.finish_serves all_found (λ b l. rest.0 b)).1 (tile, agrees)) ∙ answer)))
+        (sym ((facts.finish_serves all_found (λ b l. rest.free.none b)).1 (tile, agrees)) ∙ answer)))
 
 -- How a run begins ------------------------------------------------------------------------------------------------------
 module _ {S : Type 0} (K : Operations S) (m : Meaning S) (plan : Plan) (lawful : Lawful (shape_of m)) (own : shape plan ≡ shape_of m) (before : Tables S) where
@@ -192,51 +232,43 @@ module _ {S : Type 0} (K : Operations S) (m : Meaning S) (plan : Plan) (lawful :
         loads_so : AllLoaded K m before (Ok y) (filled sums)
         loads_so = loads_end (Ok y) loads
 
-        seals_so : (r : Result Peeling (Refused Loading)) → Seals K plan y (filled sums) r t →
-            seal_outcome r t ≡ seal K (shape_of m) (length m.places) (loaded K m (length m.places) before)
-        seals_so r e = e ∙ ap (λ s. seal K s y.loaded (filled sums)) own
-            ∙ ap (λ n. seal K (shape_of m) n (filled sums)) ((kept K m loads_so.1).count ∙ loads_so.2)
+        -- what is sealed
+        loaded_so : seal K (shape_of m) y.loaded (filled sums) ≡ seal K (shape_of m) (length m.places) (loaded K m (length m.places) before)
+        loaded_so = ap (λ n. seal K (shape_of m) n (filled sums)) ((kept K m loads_so.1).count ∙ loads_so.2)
             ∙ ap (seal K (shape_of m) (length m.places)) loads_so.3
 
-        pub unsealed_steps : (r : Refused Loading) → Seals K plan y (filled sums) (Err r) t → (refuses (refusal_of r.fault), t) ≡ one_worker K m before
-        unsealed_steps r e = ap (sealing K m) (seals_so (Err r) e) ∙ sym steps_are
+        pub unsealed_steps : (r : Refused Loading) → SealsAndPeels K plan y (filled sums) (Err r) t → (refuses (refusal_of r.fault), t) ≡ one_worker K m before
+        unsealed_steps r e = ap (sealing K m) (only_seals K plan y (filled sums) t r e ∙ ap (λ s. seal K s y.loaded (filled sums)) own ∙ loaded_so) ∙ sym steps_are
 
-        pub run_unsealed : (r : Refused Loading) → Seals K plan y (filled sums) (Err r) t → Rebuilds K m before (refuses (refusal_of r.fault)) t
-        run_unsealed = seal_refused K m plan own before is_ready y (filled sums) t loads_so.0 loads_so.1 loads_so.2
+        pub run_unsealed : (r : Refused Loading) → SealsAndPeels K plan y (filled sums) (Err r) t → Rebuilds K m before (refuses (refusal_of r.fault)) t
+        run_unsealed r e = seal_refused K m plan own before is_ready y (filled sums) t loads_so.0 loads_so.1 loads_so.2 r (only_seals K plan y (filled sums) t r e)
 
-        module _ (z : Peeling) (seals : Seals K plan y (filled sums) (Ok z) t) where
-          pub peels_end : (r : Result Peeling (Refused (Peeling × Grant))) (t' : Tables S) → PeelsAll K plan z t r t' → AllPeeled K m (world_of z.state t) r t'
-          peels_end r t' peels = peels m (event calls.seals done ∷ loads_so.0) own
-              (sealed K m plan own before is_ready y (filled sums) t loads_so.0 loads_so.1 loads_so.2 z seals) (none_out_yet K m plan own before is_ready y (filled sums) t loads_so.0 loads_so.1 loads_so.2 z seals)
+        module _ (w : Peeling) (peels : SealsAndPeels K plan y (filled sums) (Ok w) t) where
+          passes : criterion (shape_of m) ≡ true
+          passes = criterion_holds K m plan own before is_ready y (filled sums) t loads_so.0 loads_so.1 loads_so.2 w peels
 
-          module _ (w : Peeling) (t' : Tables S) (peels : PeelsAll K plan z t (Ok w) t') where
-            passes : criterion (shape_of m) ≡ true
-            passes = criterion_holds K m plan own before is_ready y (filled sums) t loads_so.0 loads_so.1 loads_so.2 z seals
+          rests : Rest K m (world_of w.state t)
+          rests = at_rest K m plan own before is_ready y (filled sums) t loads_so.0 loads_so.1 loads_so.2 w peels
 
-            peeled : AllPeeled K m (world_of z.state t) (Ok w) t'
-            peeled = peels_end (Ok w) t' peels
+          finishes_so : (r : Result FinishedTile (Refused Peeling)) → Finishes K plan w t.sums r → outcomes.finish_outcome r t ≡ finish K (shape_of m) w.state t
+          finishes_so r e = e t.picture t.marks t.counts t.queue ∙ ap (λ s. finish K s w.state t) own
 
-            peels_so : sealing K m (seal_outcome (Ok z) t) ≡ finishing K m (world_of w.state t')
-            peels_so = ap (finishing K m) (sym peeled.3)
+          all_steps : one_worker K m before ≡ finishing K m (world_of w.state t)
+          all_steps = steps_are ∙ ap (sealing K m) (sym loaded_so ∙ accepted K m plan own before is_ready y (filled sums) t loads_so.0 loads_so.1 loads_so.2 w peels)
+              ∙ ap (finishing K m) (sym (peeled_so K m plan own before is_ready y (filled sums) t loads_so.0 loads_so.1 loads_so.2 w peels))
 
-            finishes_so : (r : Result FinishedTile (Refused Peeling)) → Finishes K plan w t'.sums r → outcomes.finish_outcome r t' ≡ finish K (shape_of m) w.state t'
-            finishes_so r e = e t'.picture t'.marks t'.counts t'.queue ∙ ap (λ s. finish K s w.state t') own
+          pub served_steps : (f : FinishedTile) → Finishes K plan w t.sums (Ok f) → f.cells ≡ pixels_of (shape plan) → (served f.cells, t) ≡ one_worker K m before
+          served_steps f e size = ap (λ n. (served n, t)) (size ∙ ap pixels_of own)
+              ∙ ap (λ o. ends K m o.answer t) (finishes_so (Ok f) e) ∙ sym all_steps
 
-            all_steps : one_worker K m before ≡ finishing K m (world_of w.state t')
-            all_steps = steps_are ∙ ap (sealing K m) (sym (seals_so (Ok z) seals)) ∙ peels_so
+          pub unfinished_steps : (r : Refused Peeling) → Finishes K plan w t.sums (Err r) → (refuses (refusal_of r.fault), t) ≡ one_worker K m before
+          unfinished_steps r e = ap (λ o. ends K m o.answer t) (finishes_so (Err r) e) ∙ sym all_steps
 
-            pub served_steps : (f : FinishedTile) → Finishes K plan w t'.sums (Ok f) → f.cells ≡ pixels_of (shape plan) → (served f.cells, t') ≡ one_worker K m before
-            served_steps f e size = ap (λ n. (served n, t')) (size ∙ ap pixels_of own)
-                ∙ ap (λ o. ends K m o.answer t') (finishes_so (Ok f) e) ∙ sym all_steps
+          pub run_served : (f : FinishedTile) → Finishes K plan w t.sums (Ok f) → f.cells ≡ pixels_of (shape plan) → Rebuilds K m before (served f.cells) t
+          run_served = finish_served K m plan own before is_ready passes w t rests
 
-            pub unfinished_steps : (r : Refused Peeling) → Finishes K plan w t'.sums (Err r) → (refuses (refusal_of r.fault), t') ≡ one_worker K m before
-            unfinished_steps r e = ap (λ o. ends K m o.answer t') (finishes_so (Err r) e) ∙ sym all_steps
-
-            pub run_served : (f : FinishedTile) → Finishes K plan w t'.sums (Ok f) → f.cells ≡ pixels_of (shape plan) → Rebuilds K m before (served f.cells) t'
-            run_served = finish_served K m plan own before is_ready passes w t' peeled.0 peeled.1 peeled.2
-
-            pub run_unfinished : (r : Refused Peeling) → Finishes K plan w t'.sums (Err r) → Rebuilds K m before (refuses (refusal_of r.fault)) t'
-            run_unfinished = finish_refused K m plan own before is_ready passes w t' peeled.0 peeled.1 peeled.2
+          pub run_unfinished : (r : Refused Peeling) → Finishes K plan w t.sums (Err r) → Rebuilds K m before (refuses (refusal_of r.fault)) t
+          run_unfinished = finish_refused K m plan own before is_ready passes w t rests
 
 -- A source that is not lawful.
 pub unlawful_steps : {S : Type 0} (K : Operations S) (m : Meaning S) (before : Tables S) (r : Refusal) → verdict (shape_of m) ≡ Some r → (refuses r, before) ≡ one_worker K m before

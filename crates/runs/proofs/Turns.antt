@@ -1,31 +1,30 @@
--- One call of a run.
-use Rattle.std.proofs.Common.{◌≡◌, ℕ, zero, suc, ◌+◌, ◌-◌, ◌<◌, ◌≤◌, true, false, eqb, List, ◌∷◌, length, Ok, Err, Option, sym, refl, ap, ◌∙◌, arith}
+-- The calls of a run: each load, and the turns of one worker.
+use Rattle.std.proofs.Common.{◌≡◌, ℕ, zero, suc, ◌+◌, ◌<◌, ◌≤◌, true, false, eqb, ◌⊎◌, List, ◌∷◌, length, Ok, Err, Option, sym, refl, ap, ◌∙◌, subst, inl, inr, ⊎_elim, arith}
 use Rattle.std.proofs.lemmas.Bool.{true≢false, eq-eqb}
 use Rattle.samples.specs.declared.kind.Kind.{Ghosts as Operations}
-use Rattle.samples.specs.Kinds.{sum_words}
 use Rattle.mojette.specs.Faults.{refusal_of}
-use Rattle.mojette.specs.Meaning.{Shape, Meaning, shape_of}
+use Rattle.mojette.specs.Meaning.{Meaning, shape_of, bins_of}
 use Rattle.mojette.specs.Refusals.{Refusal}
 use Rattle.peeling.specs.Counting.{one_if}
-use Rattle.peeling.specs.History.{waits, out, settles}
-use Rattle.peeling.specs.Steps.{World}
+use Rattle.peeling.specs.History.{out, settles}
+use Rattle.peeling.specs.Steps.{World, Taken, none_waits, bad_cell, grants, take_answers}
+use Rattle.peeling.specs.Steps.{take as peel_take, settle as peel_settle}
 use Rattle.plan.specs.declared.plan.Plan.{Plan}
 use Rattle.plan.specs.Shapes.{shape}
 use Rattle.law.specs.Law.{T, Waits, grants_of, settles_of}
-use Rattle.law.specs.Life.{History, Life, take_does, event, is_served, loaded_places, since_seal}
+use Rattle.law.specs.Life.{History, Life, then, take_does, settle_does, event, is_served, loaded_places, since_seal}
 use Rattle.law.specs.Life as calls
-use Rattle.law.specs.Steps.{loading, peeling, Tables, Answer, done, granted, settled, refused, world_of, load, take, settle}
-use Rattle.law.proofs.Lives.{kept}
+use Rattle.law.specs.Positions.{incidence}
+use Rattle.law.specs.Steps.{loading, peeling, Tables, Answer, done, granted, settled, refused, refuse, peels_on, tables_of, load, take_outcome, take, finds, settle}
+use Rattle.law.specs.Turns.{moved, spend, turn, turns, loaded}
+use Rattle.law.proofs.Lives.{kept, take_is, settle_is, inside}
 use Rattle.law.proofs.Loading.{load_next, records_number}
 use Rattle.law.proofs.Outcome.{law}
-use Rattle.tile.specs.declared.states.Grant.{Grant}
 use Rattle.tile.specs.declared.states.Loading.{Loading}
-use Rattle.tile.specs.declared.states.Peeling.{Peeling}
 use Rattle.tile.specs.declared.states.Refused.{Refused}
-use Rattle.tile.specs.Calls.{Loads, Takes, Settles}
-use Rattle.tile.specs.Outcomes.{tables, take_outcome}
+use Rattle.tile.specs.Calls.{Loads}
+use Rattle.tile.specs.Outcomes.{tables}
 use Rattle.tile.proofs.Living.{calls_live}
-use Rattle.runs.specs.Turns.{state_of, turn, turns, loaded}
 
 -- a served answer is no refusal
 pub not_both : {a b : Answer} → is_served a ≡ true → is_served b ≡ false → a ≡ b → ⊥
@@ -55,72 +54,6 @@ module _ {S : Type 0} (K : Operations S) (m : Meaning S) (plan : Plan) (own : sh
         (sym (ap (λ o. o.answer) next) ∙ ap (λ s. (load K s m x.loaded (tables picture marks sums counts queue)).answer) (sym own)
         ∙ sym (ap (λ o. o.answer) (e picture marks counts queue)))
 
-  -- Take ----------------------------------------------------------------------------------------------------------------
-  module _ (x : Peeling) (t : Tables S) (h : History) (life : Life K m h (peeling x.state) t) where
-    pub taken_one : (y : Peeling) (g : Grant) → Takes sum_words plan x t.queue (Ok (y, g)) → Life K m (event calls.takes (granted g.position) ∷ h) (peeling y.state) t
-    taken_one y g e = ((calls_live K).takes plan x t.queue (Ok (y, g)) e t.picture t.sums t.marks t.counts).own m h own life tt
-
-    pub none_taken : (r : Refused Peeling) → Takes sum_words plan x t.queue (Err r) → Life K m (event calls.takes (refused (refusal_of r.fault)) ∷ h) (peeling r.back.state) t
-    none_taken r e = ((calls_live K).takes plan x t.queue (Err r) e t.picture t.sums t.marks t.counts).own m h own life tt
-
-    pub none_waits : (r : Refused Peeling) → Takes sum_words plan x t.queue (Err r) → (b : ℕ) → b < T K m → ¬ (Waits K m h b)
-    none_waits r e =
-        ((law K).lives m h (peeling x.state) t life).take_refuses.0 (
-          refusal_of r.fault,
-          ap (λ s. (take K s x.state t).answer) (sym own)
-              ∙ sym (ap (λ o. o.answer) ((calls_live K).takes_so plan x t.queue (Err r) e t.picture t.sums t.marks t.counts)),
-        )
-
-  -- Settle --------------------------------------------------------------------------------------------------------------
-  module _ (x : Peeling) (g : Grant) (t t' : Tables S) (h : History) (life : Life K m h (peeling x.state) t) (is-out : 0 < grants_of K m h g.position) where
-    pub settled_one : (y : Peeling) (c : Option ℕ) (n : ℕ) → Settles K plan x g t (Ok (y, (c, n))) t' →
-        Life K m (event (calls.settles g.position) (settled c n) ∷ h) (peeling y.state) t'
-    settled_one y c n e = ((calls_live K).settles plan x g t (Ok (y, (c, n))) t' e).own m h own life is-out
-
-    pub settle_serves : (r : Refused (Peeling × Grant)) → Settles K plan x g t (Err r) t' → ⊥
-    settle_serves r e =
-        not_both {b = refused (refusal_of r.fault)} refl refl
-        (sym (((law K).lives m h (peeling x.state) t life).settle_serves g.position is-out)
-        ∙ ap (λ s. (settle K s g.position x.state t).answer) (sym own) ∙ sym (ap (λ o. o.answer) e))
-
--- Turns -------------------------------------------------------------------------------------------------------------------
-module _ {S : Type 0} (K : Operations S) (plan : Plan) where
-  module _ (x : Peeling) (t : Tables S) where
-    pub turned_once : (y : Peeling) (g : Grant) → Takes sum_words plan x t.queue (Ok (y, g)) → (t' : Tables S) (z : Peeling) (c : Option ℕ) (n : ℕ) →
-        Settles K plan y g t (Ok (z, (c, n))) t' → turn K (shape plan) (world_of x.state t) ≡ world_of z.state t'
-    unfolding turn
-    turned_once y g took t' z c n spends =
-        rw (sym ((calls_live K).takes_so plan x t.queue (Ok (y, g)) took t.picture t.sums t.marks t.counts), sym spends) refl
-
-    pub turned_none : (m : Meaning S) (r : Refused Peeling) → Takes sum_words plan x t.queue (Err r) →
-        (r.back.state ≡ x.state) × (turn K (shape plan) (world_of x.state t) ≡ world_of x.state t)
-    unfolding turn
-    turned_none m r took =
-        let does : take_outcome (Err r) t ≡ take K (shape plan) x.state t = (calls_live K).takes_so plan x t.queue (Err r) took t.picture t.sums t.marks t.counts in
-        let stays : peeling r.back.state ≡ peeling x.state = ap (λ o. o.stage) does
-        ∙ ((law K).refusals (shape plan) m calls.takes (peeling x.state) t (take K (shape plan) x.state t) take_does (refusal_of r.fault) (sym (ap (λ o. o.answer) does))).0 in
-        let same : r.back.state ≡ x.state = ap (λ u. state_of u x.state) stays in
-        (same, rw (sym does) (ap (λ u. world_of u t) same))
-
--- one turn more
-pub one_more : {S : Type 0} (K : Operations S) (s : Shape) (w w' : World S) (n : ℕ) → w' ≡ turn K s (turns K s n w) → w' ≡ turns K s (n + 1) w
-one_more K s w w' n is = let one : suc n ≡ n + 1 = omega arith in is ∙ ap (λ k. turns K s k w) one
-
--- A turn that changes nothing is the last that does.
-pub at_rest : {S : Type 0} (K : Operations S) (s : Shape) (w : World S) (n k : ℕ) → turn K s (turns K s n w) ≡ turns K s n w →
-    turns K s (k + n) w ≡ turns K s n w
-at_rest K s w n zero still = ap (λ j. turns K s j w) (omega arith)
-at_rest K s w n (suc k) still =
-    let one : suc k + n ≡ suc (k + n) = omega arith in
-    ap (λ j. turns K s j w) one ∙ ap (turn K s) (at_rest K s w n k still) ∙ still
-
--- Nothing changes after n turns, and no more than T were made: so it is after T turns.
-module _ {S : Type 0} (K : Operations S) (m : Meaning S) (plan : Plan) (own : shape plan ≡ shape_of m) (w w' : World S) (n : ℕ) where
-  pub all_turns : turn K (shape plan) w' ≡ w' → w' ≡ turns K (shape plan) n w → n ≤ T K m → w' ≡ turns K (shape_of m) (T K m) w
-  all_turns still is few =
-      is ∙ sym (at_rest K (shape plan) w n (T K m - n) (ap (turn K (shape plan)) (sym is) ∙ still ∙ is))
-      ∙ ap (λ k. turns K (shape plan) k w) (omega (arith, few)) ∙ ap (λ s. turns K s (T K m) w) own
-
 -- What a take and a settle change of the history --------------------------------------------------------------------------
 module _ {S : Type 0} (K : Operations S) (m : Meaning S) (h : History) where
   pub loads_more : loaded_places (event calls.loads done ∷ h) ≡ loaded_places h + 1
@@ -143,15 +76,104 @@ module _ {S : Type 0} (K : Operations S) (m : Meaning S) (h : History) where
     unfolding since_seal settles
     one_settled = refl
 
-  module _ (r : Refusal) where
-    pub still_out : (b : ℕ) → grants_of K m (event calls.takes (refused r) ∷ h) b ≡ grants_of K m h b
-    unfolding since_seal out
-    still_out b = refl
-
-    pub still_waits : (b : ℕ) → Waits K m (event calls.takes (refused r) ∷ h) b → Waits K m h b
-    unfolding since_seal waits
-    still_waits b w = w
-
 -- the plan of a source has its places
 pub same_number : {S : Type 0} (K : Operations S) (m : Meaning S) (plan : Plan) → shape plan ≡ shape_of m → length (shape plan).records ≡ length m.places
 same_number K m plan own = ap (λ s. length s.records) own ∙ records_number K m
+
+-- Turns, from a life of the tile with no grant out ------------------------------------------------------------------------
+module _ {S : Type 0} (K : Operations S) (m : Meaning S) where
+  -- a life that comes to this world, with no grant out
+  pub record Free (w : World S) : Type 0 where
+    pub history : History
+    pub life : Life K m history (peeling w.state) (tables_of w)
+    pub none : (b : ℕ) → grants_of K m history b ≡ 0
+
+  -- A turn goes on with the life: a bin waited, and one settle more was served.
+  record Moves (w : World S) (f : Free w) : Type 0 where
+    at : ℕ
+    below : at < T K m
+    waited : Waits K m f.history at
+    next : Free (turn K (shape_of m) w)
+    more : settles_of K m next.history ≡ settles_of K m f.history + 1
+
+  -- Nothing waits, and no grant is out.
+  pub record Rest (w : World S) : Type 0 where
+    pub free : Free w
+    pub idle : (b : ℕ) → b < T K m → ¬ (Waits K m free.history b)
+
+  module _ (w : World S) (f : Free w) where
+    -- A turn changes nothing, and nothing waits; or it goes on with the life.
+    one_turn : ((turn K (shape_of m) w ≡ w) × ((b : ℕ) → b < T K m → ¬ (Waits K m f.history b))) ⊎ Moves w f
+    unfolding turn
+    one_turn = go (take_answers (bins_of (shape_of m)) w.state w.queue) (take_is K m f.history w.state (tables_of w) (kept K m f.life))
+      where
+        -- a take that was refused
+        stays : (r : Refusal) → take K (shape_of m) w.state (tables_of w) ≡ refuse (peeling w.state) (tables_of w) r →
+            (turn K (shape_of m) w ≡ w) × ((b : ℕ) → b < T K m → ¬ (Waits K m f.history b))
+        stays r e = (
+          ap (λ o. spend K (shape_of m) o.answer (moved K (shape_of m) o w)) e,
+          ((law K).lives m f.history (peeling w.state) (tables_of w) f.life).take_refuses.0 (r, ap (λ o. o.answer) e),
+        )
+
+        -- a take, and the settle of what it granted
+        moves : (b : ℕ) → take K (shape_of m) w.state (tables_of w) ≡ peels_on (peel_take K (incidence (shape_of m)) w) (granted b) → Moves w f
+        moves b e =
+            let v = peel_take K (incidence (shape_of m)) w in
+            let h = event calls.takes (granted b) ∷ f.history in
+            let life : Life K m h (peeling v.state) (tables_of v) =
+            subst (λ o. Life K m (event calls.takes o.answer ∷ f.history) o.stage o.tables) e (then f.life take_does tt) in
+            let is-out = grant_is_out K m f.history b in
+            let u = peel_settle K (incidence (shape_of m)) b v in
+            let c = finds K (shape_of m) b v in
+            let served : settle K (shape_of m) b v.state (tables_of v) ≡ peels_on u (settled c u.state.left) =
+            settle_is K m h v.state (tables_of v) (kept K m life) b (inside K m h v.state (tables_of v) (kept K m life) b is-out) in
+            let after : Life K m (event (calls.settles b) (settled c u.state.left) ∷ h) (peeling u.state) (tables_of u) =
+            subst (λ o. Life K m (event (calls.settles b) o.answer ∷ h) o.stage o.tables) served (then life settle_does is-out) in
+            let turned : turn K (shape_of m) w ≡ u =
+            ap (λ o. spend K (shape_of m) o.answer (moved K (shape_of m) o w)) e ∙ ap (λ o. moved K (shape_of m) o v) served in
+            let granting = ((law K).lives m f.history (peeling w.state) (tables_of w) f.life).take_grants b (ap (λ o. o.answer) e) in
+            let last : (next : Free u) × (settles_of K m next.history ≡ settles_of K m f.history + 1) = (
+              record { history = event (calls.settles b) (settled c u.state.left) ∷ h; life = after; none = none_out K m f.history b c u.state.left f.none },
+              one_settled K m f.history b c u.state.left,
+            ) in
+            let here = subst (λ x. (next : Free x) × (settles_of K m next.history ≡ settles_of K m f.history + 1)) (sym turned) last in
+            record { at = b; below = granting.0; waited = granting.1; next = here.0; more = here.1 }
+
+        go : (a : Taken) → take K (shape_of m) w.state (tables_of w) ≡ take_outcome K (shape_of m) w.state (tables_of w) a →
+            ((turn K (shape_of m) w ≡ w) × ((b : ℕ) → b < T K m → ¬ (Waits K m f.history b))) ⊎ Moves w f
+        go none_waits e = inl (stays _ e)
+        go (bad_cell i) e = inl (stays _ e)
+        go (grants b) e = inr (moves b e)
+
+  -- A turn at rest changes nothing.
+  still : (w : World S) → Rest w → Rest (turn K (shape_of m) w)
+  still w rest = ⊎_elim
+      (λ (stays : (turn K (shape_of m) w ≡ w) × ((b : ℕ) → b < T K m → ¬ (Waits K m rest.free.history b))). subst Rest (sym stays.0) rest)
+      (λ (moves : Moves w rest.free). absurd (rest.idle moves.at moves.below moves.waited))
+      (one_turn w rest.free)
+
+  module _ (w : World S) (f : Free w) where
+    -- After n turns the tile is at rest, or n settles were served, or more.
+    goes : (n : ℕ) → Rest (turns K (shape_of m) n w) ⊎ ((next : Free (turns K (shape_of m) n w)) × (n ≤ settles_of K m next.history))
+    goes zero = inr (f, omega arith)
+    goes (suc n) = ⊎_elim
+        (λ (rest : Rest (turns K (shape_of m) n w)). inl (still (turns K (shape_of m) n w) rest))
+        (λ (on : (next : Free (turns K (shape_of m) n w)) × (n ≤ settles_of K m next.history)). ⊎_elim
+        (λ (stays : (turn K (shape_of m) (turns K (shape_of m) n w) ≡ turns K (shape_of m) n w) × ((b : ℕ) → b < T K m → ¬ (Waits K m on.0.history b))).
+        inl (subst Rest (sym stays.0) (record { free = on.0; idle = stays.1 })))
+        (λ (moves : Moves (turns K (shape_of m) n w) on.0). inr (moves.next, omega (arith, on.1, moves.more)))
+        (one_turn (turns K (shape_of m) n w) on.0))
+        (goes n)
+
+    -- After as many turns as there are bins it is at rest: settles never outnumber them.
+    pub all_peeled : Rest (turns K (shape_of m) (T K m) w)
+    all_peeled = ⊎_elim
+        (λ (rest : Rest (turns K (shape_of m) (T K m) w)). rest)
+        (λ (on : (next : Free (turns K (shape_of m) (T K m) w)) × (T K m ≤ settles_of K m next.history)). ⊎_elim
+        (λ (stays : (turn K (shape_of m) (turns K (shape_of m) (T K m) w) ≡ turns K (shape_of m) (T K m) w) × ((b : ℕ) → b < T K m → ¬ (Waits K m on.0.history b))).
+        record { free = on.0; idle = stays.1 })
+        (λ (moves : Moves (turns K (shape_of m) (T K m) w) on.0).
+        let few = ((law K).lives m moves.next.history _ _ moves.next.life).settles_few in
+        absurd (omega (arith, few, on.1, moves.more)))
+        (one_turn (turns K (shape_of m) (T K m) w) on.0))
+        (goes (T K m))

@@ -7,8 +7,8 @@ use Rattle.mojette.specs.Refusals.{Refusal, refusal}
 use Rattle.peeling.specs.Steps.{World}
 use Rattle.law.specs.Steps.{Tables, refused, Outcome, world_of, tables_of, blank, short, seal, finish}
 use Rattle.law.specs.Steps as step
+use Rattle.law.specs.Turns.{state_of, turns, loaded}
 use Rattle.runs.specs.Rebuilding.{Answer, served, refuses}
-use Rattle.runs.specs.Turns.{state_of, turns, loaded}
 
 module _ {S : Type 0} (K : Operations S) (m : Meaning S) where
   -- a finish answers, on these tables

@@ -8,7 +8,7 @@ ghost use Rattle.runs.specs.Worker.{one_worker};
 ghost use Rattle.tile.specs.Outcomes.{tables};
 ghost use Rattle.tile.specs.Worlds.{StillLent, held};
 
-use crate::steps::{load_all, peel_all};
+use crate::steps::load_all;
 use mojette::Fault;
 use plan::Plan;
 use source::Source;
@@ -32,7 +32,7 @@ fn run<S: Source>(
     let Ok(tile) = load_all(tile, source, plan, tables.sums) else {
         unreachable()
     };
-    let tile = tile.seal(
+    let tile = tile.seal_and_peel(
         plan,
         tables.picture,
         tables.marks,
@@ -40,16 +40,11 @@ fn run<S: Source>(
         tables.counts,
         tables.queue,
     )?;
-    // A match, since `let .. else` would let a grant go.
-    let tile = match peel_all(tile, plan, tables) {
-        Ok(tile) => tile,
-        Err(_held) => unreachable(),
-    };
     let sums = &mut *tables.sums;
     Ok(tile.finish(plan, sums)?)
 }
 
-// Opens, loads, seals, takes and settles until nothing waits, and finishes. The tables are the callers' and stay slices.
+// Opens, loads, seals and peels, and finishes. The tables are the callers' and stay slices.
 pub fn rebuild<S: Source>(
     source: &S,
     plan: &mut Plan,

@@ -1,19 +1,13 @@
 -- The answer that a source's meaning gives to each question.
-use Rattle.std.specs.Prelude.{ℕ, cond, [], length, pos, Some, None, Option, nat_lt, slice_index_or}
+use Rattle.std.specs.Prelude.{ℕ, cond, length, Some, None, Option, nat_lt, slice_index_or}
 use Rattle.samples.specs.declared.kind.Kind.{Ghosts as Operations}
 use Rattle.mojette.specs.declared.direction.Record.{Record}
 use Rattle.mojette.specs.Bins.{bins, whole}
 use Rattle.mojette.specs.Faults.{Outcome, served, refuses}
 use Rattle.mojette.specs.Meaning.{Place, Meaning}
+pub use Rattle.mojette.specs.Meaning.{no_record, no_place}
 use Rattle.mojette.specs.Refusals.{Refusal, refusal}
 use Rattle.source.specs.declared.types.Sizes.{Sizes}
-
--- what a list of records, or of places, says beyond its end
-abbrev pub no_record : Record
-no_record = record { direction = record { p = pos 0; q = pos 1 }; cause = 0 }
-
-abbrev pub no_place : {S : Type 0} → Place S
-no_place = record { entry = no_record; sums = [] }
 
 abbrev pub place_at : {S : Type 0} → Meaning S → ℕ → Place S
 place_at m i = slice_index_or m.places i no_place

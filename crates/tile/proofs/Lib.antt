@@ -9,3 +9,5 @@ pub mod Rings
 pub mod Sealing
 pub mod Showing
 pub mod Turns
+pub mod Following
+pub mod Beginning

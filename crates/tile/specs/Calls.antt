@@ -8,6 +8,7 @@ use Rattle.mojette.specs.Meaning.{Meaning, shape_of, verdict}
 use Rattle.plan.specs.declared.plan.Plan.{Plan}
 use Rattle.plan.specs.Shapes.{shape}
 use Rattle.law.specs.Steps.{Tables, load, seal, take, settle, give_back, finish}
+use Rattle.law.specs.Turns.{seal_and_peel}
 use Rattle.tile.specs.declared.states.Finished.{Finished}
 use Rattle.tile.specs.declared.states.Grant.{Grant}
 use Rattle.tile.specs.declared.states.Loading.{Loading}
@@ -27,6 +28,10 @@ module _ {S : Type 0} (K : Operations S) (plan : Plan) where
 
   abbrev pub Seals : Loading → Tables S → Result Peeling (Refused Loading) → Tables S → Type 0
   Seals x t r t' = seal_outcome r t' ≡ seal K (shape plan) x.loaded t
+
+  -- Sealing and peeling in one call: the step of both.
+  abbrev pub SealsAndPeels : Loading → Tables S → Result Peeling (Refused Loading) → Tables S → Type 0
+  SealsAndPeels x t r t' = seal_outcome r t' ≡ seal_and_peel K (shape plan) x.loaded t
 
   abbrev pub Takes : Peeling → List ℕ → Result (Peeling × Grant) (Refused Peeling) → Type 0
   Takes x queue r = (picture sums : List S) (marks counts : List ℕ) →

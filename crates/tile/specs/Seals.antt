@@ -7,7 +7,12 @@ use Rattle.mojette.specs.Meaning.{Shape, pixels_of}
 use Rattle.mojette.specs.Refusals.{refusal}
 use Rattle.peeling.specs.declared.state.State.{State}
 use Rattle.peeling.specs.Steps.{appended, queue_with}
-use Rattle.law.specs.Steps.{C, R, criterion, ghosted}
+use Rattle.peeling.specs.Steps.{seal as peel_seal}
+use Rattle.law.specs.Life.{LongEnough}
+use Rattle.law.specs.Positions.{incidence}
+use Rattle.law.specs.Steps.{loading, Tables, done, refuse, peels_on, world_of, blank, C, R, criterion, ghosted, seal}
+use Rattle.tile.specs.declared.states.Loading.{Loading}
+use Rattle.tile.specs.declared.states.Refused.{Refused}
 
 -- the state of a tile of which all pixels are missing, and nothing is queued
 abbrev pub unpeeled : Shape → State
@@ -26,3 +31,8 @@ singles_queued bins (suc k) counts r = cond (slice_index counts k == 1) (with_po
 abbrev pub Judges : {S : Type 0} → Operations S → Shape → List S → Result (Unit {0}) Fault → List S → Type 0
 Judges K shape picture (Ok _) picture' = (criterion shape ≡ true) × (picture' ≡ picture)
 Judges K shape picture (Err e) picture' = (criterion shape ≡ false) × (picture' ≡ ghosted K shape picture) × (refusal_of e ≡ refusal 9 (C shape) (R shape) 0)
+
+-- The seal is accepted, on tables that are long enough, and they are as they were; or what it leaves and answers is the step of a seal.
+abbrev pub Accepts : {S : Type 0} → Operations S → Shape → ℕ → Tables S → Result (Unit {0}) (Refused Loading) → Tables S → Type 0
+Accepts K shape n t (Ok _) t' = (seal K shape n t ≡ peels_on (peel_seal K (incidence shape) (world_of blank t)) done) × LongEnough shape t × (t' ≡ t)
+Accepts K shape n t (Err e) t' = refuse (loading e.back.loaded) t' (refusal_of e.fault) ≡ seal K shape n t

@@ -1,11 +1,13 @@
 // The calls on a tile: the states that they take and hand on, and the tables that they work on.
 #![tactic(auto)]
 
+pub mod alone;
 pub mod counts;
 pub mod finish;
 pub mod lent;
 pub mod lives;
 pub mod load;
+pub mod noting;
 pub mod opening;
 pub mod peel;
 #[cfg(test)]

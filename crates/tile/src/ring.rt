@@ -10,7 +10,7 @@ use peeling::State;
 use plan::Plan;
 
 // n mod bins, with no division where n is below twice that. That there are bins is a clause: a number cannot say that it is a plan's.
-fn wrapped(n: usize, bins: usize) -> usize
+pub(crate) fn wrapped(n: usize, bins: usize) -> usize
     requires { 1 ≤ bins }
     ensures { result ≡ n % bins }
 {

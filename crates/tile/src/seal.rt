@@ -9,7 +9,7 @@ ghost use Rattle.law.specs.Steps.{blank, world_of};
 ghost use Rattle.walk.specs.Counts.{counts_after};
 ghost use Rattle.tile.specs.Calls.{Seals};
 ghost use Rattle.tile.specs.Outcomes.{tables};
-ghost use Rattle.tile.specs.Seals.{unpeeled, singles_queued, Judges};
+ghost use Rattle.tile.specs.Seals.{unpeeled, singles_queued, Judges, Accepts};
 ghost use Rattle.tile.specs.Worlds.{StillLent, held};
 
 use crate::lent::Tables;
@@ -24,7 +24,7 @@ use walk::count_pixels;
 // One value in the first n cells. (`fill` would ask for a clone that cannot fail, which no kind promises.)
 // It takes n, and not the n cells alone, since its contract also says what stands behind them, in the words of the steps; plan's `clear` says the
 // like in the words of its sums.
-fn fill<T: Copy>(n: usize, value: T, cells: &mut [T])
+pub(crate) fn fill<T: Copy>(n: usize, value: T, cells: &mut [T])
     requires { n ≤ length cells.old }
     ensures { cells.new ≡ filled n (λ _. value) cells.old }
 {
@@ -90,9 +90,33 @@ fn judge<K: Kind>(plan: &Plan, picture: &mut [K]) -> Result<(), Fault>
     }
 }
 
+// What a seal asks first: tables, places loaded, and Katz's criterion; where that fails the ghost is written.
+#[tactic(auto, using(std::proofs::lemmas::Bool::Decides::nat_tests, crate::proofs::Checks::all_long), unfolding(law::specs::Steps::seal, law::specs::Steps::ghosted))]
+pub(crate) fn accept<K: Kind>(
+    tile: Loading,
+    plan: &Plan,
+    tables: &mut Tables<K>,
+) -> Result<(), Refused<Loading>>
+    ensures lent { StillLent tables.old tables.new }
+    ensures accepts { Accepts K.Kind (shape plan.now) tile.loaded (held tables.old) result (held tables.new) }
+{
+    // By hand: the closure of a `map_err` would move the state, which the steps below need.
+    if let Err(fault) = tables.check(plan) {
+        return Err(Refused { back: tile, fault });
+    }
+    let places = plan.count();
+    if tile.loaded < places {
+        let missing = places - tile.loaded;
+        return Err(Refused {
+            back: tile,
+            fault: Fault::NotLoaded(missing),
+        });
+    }
+    judge(plan, tables.picture).map_err(|fault| Refused { back: tile, fault })
+}
+
 impl Loading {
     // Begins the peeling where Katz's criterion holds; else the picture shows a ghost. The tables are the callers' and stay slices.
-    #[tactic(auto, using(std::proofs::lemmas::Bool::Decides::nat_tests, crate::proofs::Checks::all_long), unfolding(law::specs::Steps::seal, law::specs::Steps::ghosted))]
     pub fn seal<K: Kind>(
         self,
         plan: &Plan,
@@ -111,19 +135,7 @@ impl Loading {
             counts,
             queue,
         };
-        // By hand: the closure of a `map_err` would move the state, which the steps below need.
-        if let Err(fault) = tables.check(plan) {
-            return Err(Refused { back: self, fault });
-        }
-        let places = plan.count();
-        if self.loaded < places {
-            let missing = places - self.loaded;
-            return Err(Refused {
-                back: self,
-                fault: Fault::NotLoaded(missing),
-            });
-        }
-        judge(plan, tables.picture).map_err(|fault| Refused { back: self, fault })?;
+        accept(self, plan, &mut tables)?;
         Ok(Peeling {
             state: begin(plan, &mut tables),
         })

@@ -190,3 +190,125 @@ fn an_empty_bin_is_read(rt: HostRuntime) -> Result<(), Fail> {
     assert_eq!(rt; grants, [0, 2, 3, 5, 9, 9, 9, 9]);
     Ok(())
 }
+
+// The tables of a tile of 2 by 2, with rubbish in them.
+#[derive(Drop)]
+struct Cells {
+    picture: [SumWord; 4],
+    marks: [u8; 4],
+    sums: [SumWord; 8],
+    counts: [u8; 8],
+    queue: [u16; 8],
+}
+
+impl Cells {
+    fn new() -> Cells {
+        Cells {
+            picture: [word(9); 4],
+            marks: [9; 4],
+            sums: [word(9); 8],
+            counts: [9; 8],
+            queue: [9; 8],
+        }
+    }
+
+    fn same(&self, other: &Cells) -> bool {
+        self.picture == other.picture
+            && self.marks == other.marks
+            && self.sums == other.sums
+            && self.counts == other.counts
+            && self.queue == other.queue
+    }
+}
+
+// Head, and how many wait, are out, are missing and were settled.
+fn counts_of(tile: &Peeling) -> (u32, [u32; 4]) {
+    (
+        tile.state.head,
+        [tile.waiting(), tile.out(), tile.left(), tile.settled()],
+    )
+}
+
+// Opens, loads every place, and seals and peels in one call.
+fn peeled_alone(
+    rack: &Rack<SumWord>,
+    places: usize,
+    cells: &mut Cells,
+) -> Result<Result<Peeling, Refused<Loading>>, Fail> {
+    let mut plan = Plan::fresh();
+    let tile = open(rack, &mut plan).ok().ok_or("open")?;
+    let tile = load(tile, places, rack, &plan, &mut cells.sums)?;
+    Ok(tile.seal_and_peel(
+        &plan,
+        &mut cells.picture,
+        &mut cells.marks,
+        &mut cells.sums,
+        &mut cells.counts,
+        &mut cells.queue,
+    ))
+}
+
+// The same by a seal, and takes and settles until none waits.
+fn peeled_by_calls(
+    rack: &Rack<SumWord>,
+    places: usize,
+    cells: &mut Cells,
+) -> Result<Peeling, Fail> {
+    let mut plan = Plan::fresh();
+    let tile = open(rack, &mut plan).ok().ok_or("open")?;
+    let tile = load(tile, places, rack, &plan, &mut cells.sums)?;
+    let tile = tile
+        .seal(
+            &plan,
+            &mut cells.picture,
+            &mut cells.marks,
+            &mut cells.sums,
+            &mut cells.counts,
+            &mut cells.queue,
+        )
+        .ok()
+        .ok_or("seal")?;
+    let mut tables = Tables {
+        picture: &mut cells.picture,
+        marks: &mut cells.marks,
+        sums: &mut cells.sums,
+        counts: &mut cells.counts,
+        queue: &mut cells.queue,
+    };
+    peel(tile, &plan, &mut tables, &mut [0; 9])
+}
+
+#[test]
+fn one_call_peels_as_many_do(rt: HostRuntime) -> Result<(), Fail> {
+    let records = [
+        Record::new(1, 1, 0),
+        Record::new(0, 1, 4),
+        Record::new(-1, 1, 0),
+    ];
+    let run = [2, 5, 3, 8, 8, 4, 5, 1].map(word);
+    let rack = Rack::new(2, 2, &records, &run).ok().ok_or("rack")?;
+    let (mut alone, mut by_calls) = (Cells::new(), Cells::new());
+    let tile = peeled_alone(&rack, 3, &mut alone)?.ok().ok_or("peel")?;
+    let other = peeled_by_calls(&rack, 3, &mut by_calls)?;
+    assert_eq!(rt; counts_of(&tile), counts_of(&other));
+    assert_eq!(rt; counts_of(&tile), (6, [0, 0, 0, 6]));
+    assert!(rt; alone.same(&by_calls));
+    assert!(rt; alone.picture == [1, 2, 3, 4].map(word));
+    Ok(())
+}
+
+#[test]
+fn one_call_shows_a_ghost(rt: HostRuntime) -> Result<(), Fail> {
+    let records = [Record::new(1, 0, 0), Record::new(0, 1, 0)];
+    let run = [3, 7, 6, 4].map(word);
+    let rack = Rack::new(2, 2, &records, &run).ok().ok_or("rack")?;
+    let mut cells = Cells::new();
+    let fault = match peeled_alone(&rack, 2, &mut cells)? {
+        Ok(_) => return Err(Fail::new("peeled")),
+        Err(refused) => refused.fault,
+    };
+    let refusal = Refusal::from(fault);
+    assert_eq!(rt; (refusal.number, refusal.first, refusal.second), (9, 1, 1));
+    assert!(rt; cells.picture == [1, 0xffff, 0xffff, 1].map(word));
+    Ok(())
+}

@@ -6,3 +6,4 @@ pub mod Finding
 pub mod Counting
 pub mod Places
 pub mod Lying
+pub mod Fewness

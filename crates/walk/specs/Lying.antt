@@ -4,7 +4,6 @@ use Rattle.mojette.specs.Bins.{start}
 use Rattle.law.specs.Positions.{incidence}
 use Rattle.plan.specs.declared.places.Place.{Place}
 use Rattle.plan.specs.declared.plan.Plan.{Plan}
-use Rattle.plan.specs.Laid.{records_of}
 use Rattle.plan.specs.Laid.{place_at as nth}
 use Rattle.plan.specs.Shapes.{shape, places_of}
 use Rattle.walk.specs.declared.pixel.Pixel.{Pixel}
@@ -12,7 +11,7 @@ use Rattle.walk.specs.Finding.{OfTile}
 
 -- the position of bin 0 of place i
 abbrev pub starts : Plan → ℕ → ℕ
-starts plan i = start plan.size.columns plan.size.rows (records_of (places_of plan)) i
+starts plan i = start (shape plan).P (shape plan).Q (shape plan).records i
 
 -- Of the positions of place i, the pixel in cell c lies at `at` if the place is whole, and at no other.
 pub record Lies (plan : Plan) (i c at : ℕ) : Type 0 where
@@ -24,5 +23,5 @@ pub record Lies (plan : Plan) (i c at : ℕ) : Type 0 where
 -- It does so wherever a plan for P by Q pixels has this place, and its tile this pixel.
 abbrev pub LiesWherever : ℕ → ℕ → Place → Pixel → ℕ → Type 0
 LiesWherever P Q place pixel at =
-    (plan : Plan) → plan.size.columns ≡ P → plan.size.rows ≡ Q → (i : ℕ) → i < length (places_of plan) → nth (places_of plan) i ≡ place
+    (plan : Plan) → (shape plan).P ≡ P → (shape plan).Q ≡ Q → (i : ℕ) → i < length (places_of plan) → nth (places_of plan) i ≡ place
     → OfTile P Q pixel → Lies plan i pixel.cell at

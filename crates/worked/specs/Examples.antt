@@ -1,5 +1,5 @@
 -- Worked examples in sum words, in one table.
-use Rattle.std.specs.Prelude.{◌≡◌, ℕ, Bool, true, not, ◌&&◌, ◌||◌, List, [], ◌∷◌, map, ℤ, pos, negsuc, nat_le}
+use Rattle.std.specs.Prelude.{◌≡◌, ℕ, Bool, true, not, ◌&&◌, List, [], ◌∷◌, map, ℤ, pos, negsuc}
 use Rattle.std.specs.Str.{bytes_eq}
 use Rattle.samples.specs.declared.words.SumWord.{SumWord}
 use Rattle.samples.specs.Kinds.{sum_words}
@@ -7,9 +7,9 @@ use Rattle.samples.specs.Words.{sum_of}
 use Rattle.mojette.specs.declared.direction.Direction.{Direction}
 use Rattle.mojette.specs.declared.direction.Record.{Record}
 use Rattle.mojette.specs.Bins.{whole_directions}
-use Rattle.mojette.specs.Directions.{columns, rows}
 use Rattle.mojette.specs.Transform.{projection}
 use Rattle.katz.specs.Made.{ghost_tile}
+use Rattle.katz.specs.Sets.{enough as criterion}
 
 -- An example: the sums of the tile 1 2 / 3 4 along a direction; or what the whole places of a tile of some size come to, their
 -- ghost, or that they suffice.
@@ -41,10 +41,6 @@ table =
     ∷ enough 1 1 (whole (pos 0) (pos 1) ∷ [])
     ∷ ghost 1 1 (lost (pos 0) (pos 1) 1 ∷ []) (0x0001 ∷ [])
     ∷ []
-
--- Katz's criterion
-abbrev criterion : ℕ → ℕ → List Direction → Bool
-criterion P Q ds = nat_le P (columns ds) || nat_le Q (rows ds)
 
 abbrev numbers : List SumWord → List ℕ
 numbers tile = map (λ x. x.value) tile

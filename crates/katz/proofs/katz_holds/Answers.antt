@@ -1,5 +1,6 @@
 use Rattle.katz.proofs.Katz.{katz}
+use Rattle.katz.proofs.Tested.{tested}
 use Rattle.katz.proofs.katz_holds.Goals as goal
 
 pub returns : goal.returns
-returns g c = katz g.K.Kind
+returns g c = record { ghosts = katz g.K.Kind; test = tested }

@@ -3,7 +3,7 @@ use Rattle.std.proofs.lemmas.Result.{err_from_is_err_and}
 use Rattle.mojette.specs.Faults.{refusal_of}
 use Rattle.tile.specs.Outcomes.{tables}
 use Rattle.tile.specs.Worlds.{held}
-use Rattle.runs.proofs.Endings.{short_refused, short_steps, loads_end, run_unsealed, unsealed_steps, peels_end, run_served, served_steps, run_unfinished, unfinished_steps}
+use Rattle.runs.proofs.Endings.{short_refused, short_steps, loads_end, run_unsealed, unsealed_steps, run_served, served_steps, run_unfinished, unfinished_steps}
 use Rattle.runs.proofs.rebuild.run.Goals as goal
 
 pub returns-in_err-check-clause-run : goal.returns-in_err-check-clause-run
@@ -24,36 +24,27 @@ returns-in_err-tile-clause-run g c =
     let K = g.S.Sample.Kind in
     let m = g.S.Source.meaning c.args.source.now in
     let before = held c.args.tables.now in
-    let t = tables c.seal.new.picture c.seal.new.marks c.seal.new.sums c.seal.new.counts c.seal.new.queue in
+    let t = tables c.seal_and_peel.new.picture c.seal_and_peel.new.marks c.seal_and_peel.new.sums c.seal_and_peel.new.counts c.seal_and_peel.new.queue in
     let p = err_from_is_err_and c.from_residual-in_err-tile.result c.from_residual-in_err-tile.ensures.1 in
     rw (p.1, p.2) (run_unsealed K m c.args.plan.now c.requires.lawful c.requires.own before c.in_ok-check.ensures c.args.tile c.requires.opened
     c.load_all.new.sums c.in-Ok.tile c.in-Ok.ensures t c.in_err-tile.field-0.0 c.in_err-tile.ensures)
-
-pub unreachable-requires-in-Err : goal.unreachable-requires-in-Err
-unreachable-requires-in-Err g c =
-    let t = tables c.seal.new.picture c.seal.new.marks c.seal.new.sums c.seal.new.counts c.seal.new.queue in
-    peels_end g.S.Sample.Kind (g.S.Source.meaning c.args.source.now) c.args.plan.now c.requires.lawful c.requires.own (held c.args.tables.now) c.in_ok-check.ensures
-    c.args.tile c.requires.opened c.load_all.new.sums c.in-Ok.tile c.in-Ok.ensures t c.in_ok-tile.tile c.in_ok-tile.ensures
-    (Err c.in-Err._held) (held c.peel_all.new.tables) c.in-Err.ensures.peeled
 
 pub returns-in_err-finish-clause-run : goal.returns-in_err-finish-clause-run
 returns-in_err-finish-clause-run g c =
     let K = g.S.Sample.Kind in
     let m = g.S.Source.meaning c.args.source.now in
     let before = held c.args.tables.now in
-    let t = tables c.seal.new.picture c.seal.new.marks c.seal.new.sums c.seal.new.counts c.seal.new.queue in
-    let last = held c.peel_all.new.tables in
+    let t = tables c.seal_and_peel.new.picture c.seal_and_peel.new.marks c.seal_and_peel.new.sums c.seal_and_peel.new.counts c.seal_and_peel.new.queue in
     let p = err_from_is_err_and c.from_residual-in_err-finish.result c.from_residual-in_err-finish.ensures.1 in
     rw (p.1, p.2) (run_unfinished K m c.args.plan.now c.requires.lawful c.requires.own before c.in_ok-check.ensures c.args.tile c.requires.opened
-    c.load_all.new.sums c.in-Ok.tile c.in-Ok.ensures t c.in_ok-tile.tile c.in_ok-tile.ensures c.in-Ok-peel_all.tile last c.in-Ok-peel_all.ensures.peeled
+    c.load_all.new.sums c.in-Ok.tile c.in-Ok.ensures t c.in_ok-tile.tile c.in_ok-tile.ensures
     c.in_err-finish.field-0.0 c.in_err-finish.ensures.step)
 
 pub returns-clause-run : goal.returns-clause-run
 returns-clause-run g c =
-    let t = tables c.seal.new.picture c.seal.new.marks c.seal.new.sums c.seal.new.counts c.seal.new.queue in
+    let t = tables c.seal_and_peel.new.picture c.seal_and_peel.new.marks c.seal_and_peel.new.sums c.seal_and_peel.new.counts c.seal_and_peel.new.queue in
     run_served g.S.Sample.Kind (g.S.Source.meaning c.args.source.now) c.args.plan.now c.requires.lawful c.requires.own (held c.args.tables.now) c.in_ok-check.ensures
-    c.args.tile c.requires.opened c.load_all.new.sums c.in-Ok.tile c.in-Ok.ensures t c.in_ok-tile.tile c.in_ok-tile.ensures
-    c.in-Ok-peel_all.tile (held c.peel_all.new.tables) c.in-Ok-peel_all.ensures.peeled c.in_ok-finish.field-0 c.in_ok-finish.ensures.step c.in_ok-finish.ensures.cells
+    c.args.tile c.requires.opened c.load_all.new.sums c.in-Ok.tile c.in-Ok.ensures t c.in_ok-tile.tile c.in_ok-tile.ensures c.in_ok-finish.field-0 c.in_ok-finish.ensures.step c.in_ok-finish.ensures.cells
 
 pub returns-in_err-check-clause-by_steps : goal.returns-in_err-check-clause-by_steps
 returns-in_err-check-clause-by_steps g c =
@@ -68,7 +59,7 @@ returns-in_err-tile-clause-by_steps g c =
     let K = g.S.Sample.Kind in
     let m = g.S.Source.meaning c.args.source.now in
     let before = held c.args.tables.now in
-    let t = tables c.seal.new.picture c.seal.new.marks c.seal.new.sums c.seal.new.counts c.seal.new.queue in
+    let t = tables c.seal_and_peel.new.picture c.seal_and_peel.new.marks c.seal_and_peel.new.sums c.seal_and_peel.new.counts c.seal_and_peel.new.queue in
     let p = err_from_is_err_and c.from_residual-in_err-tile.result c.from_residual-in_err-tile.ensures.1 in
     rw (p.1, p.2) (unsealed_steps K m c.args.plan.now c.requires.lawful c.requires.own before c.in_ok-check.ensures c.args.tile c.requires.opened
     c.load_all.new.sums c.in-Ok.tile c.in-Ok.ensures t c.in_err-tile.field-0.0 c.in_err-tile.ensures)
@@ -78,16 +69,14 @@ returns-in_err-finish-clause-by_steps g c =
     let K = g.S.Sample.Kind in
     let m = g.S.Source.meaning c.args.source.now in
     let before = held c.args.tables.now in
-    let t = tables c.seal.new.picture c.seal.new.marks c.seal.new.sums c.seal.new.counts c.seal.new.queue in
-    let last = held c.peel_all.new.tables in
+    let t = tables c.seal_and_peel.new.picture c.seal_and_peel.new.marks c.seal_and_peel.new.sums c.seal_and_peel.new.counts c.seal_and_peel.new.queue in
     let p = err_from_is_err_and c.from_residual-in_err-finish.result c.from_residual-in_err-finish.ensures.1 in
     rw (p.1, p.2) (unfinished_steps K m c.args.plan.now c.requires.lawful c.requires.own before c.in_ok-check.ensures c.args.tile c.requires.opened
-    c.load_all.new.sums c.in-Ok.tile c.in-Ok.ensures t c.in_ok-tile.tile c.in_ok-tile.ensures c.in-Ok-peel_all.tile last c.in-Ok-peel_all.ensures.peeled
+    c.load_all.new.sums c.in-Ok.tile c.in-Ok.ensures t c.in_ok-tile.tile c.in_ok-tile.ensures
     c.in_err-finish.field-0.0 c.in_err-finish.ensures.step)
 
 pub returns-clause-by_steps : goal.returns-clause-by_steps
 returns-clause-by_steps g c =
-    let t = tables c.seal.new.picture c.seal.new.marks c.seal.new.sums c.seal.new.counts c.seal.new.queue in
+    let t = tables c.seal_and_peel.new.picture c.seal_and_peel.new.marks c.seal_and_peel.new.sums c.seal_and_peel.new.counts c.seal_and_peel.new.queue in
     served_steps g.S.Sample.Kind (g.S.Source.meaning c.args.source.now) c.args.plan.now c.requires.lawful c.requires.own (held c.args.tables.now) c.in_ok-check.ensures
-    c.args.tile c.requires.opened c.load_all.new.sums c.in-Ok.tile c.in-Ok.ensures t c.in_ok-tile.tile c.in_ok-tile.ensures
-    c.in-Ok-peel_all.tile (held c.peel_all.new.tables) c.in-Ok-peel_all.ensures.peeled c.in_ok-finish.field-0 c.in_ok-finish.ensures.step c.in_ok-finish.ensures.cells
+    c.args.tile c.requires.opened c.load_all.new.sums c.in-Ok.tile c.in-Ok.ensures t c.in_ok-tile.tile c.in_ok-tile.ensures c.in_ok-finish.field-0 c.in_ok-finish.ensures.step c.in_ok-finish.ensures.cells

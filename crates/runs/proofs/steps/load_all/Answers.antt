@@ -2,8 +2,8 @@ use Rattle.std.proofs.Common.{◌≡◌, ◌+◌, ◌∷◌, length, refl, ap, �
 use Rattle.law.specs.Life.{event}
 use Rattle.law.specs.Life as calls
 use Rattle.law.specs.Steps.{done}
+use Rattle.law.specs.Turns.{loaded}
 use Rattle.tile.specs.Outcomes.{tables}
-use Rattle.runs.specs.Turns.{loaded}
 use Rattle.runs.proofs.Turns.{loaded_one, load_goes, load_serves, loads_more, same_number}
 use Rattle.runs.proofs.steps.load_all.Goals as goal
 

@@ -3,8 +3,8 @@ use Rattle.mojette.specs.Meaning.{shape_of}
 use Rattle.plan.specs.Shapes.{shape}
 use Rattle.law.specs.Life.{History, Life, loaded_places}
 use Rattle.law.specs.Steps.{loading}
+use Rattle.law.specs.Turns.{loaded}
 use Rattle.tile.specs.Outcomes.{tables}
-use Rattle.runs.specs.Turns.{loaded}
 use Rattle.runs.proofs.steps.load_all.Given as goal
 
 -- From a life with no place loaded there is one with `counter` places loaded, and the tables are those after as many loads.

@@ -1,10 +1,10 @@
 -- One worker's turns: so many loads, and so many takes with a settle of what each grants. Each call is its step.
 use Rattle.std.specs.Prelude.{ℕ, zero, suc}
 use Rattle.samples.specs.declared.kind.Kind.{Ghosts as Operations}
-use Rattle.mojette.specs.Meaning.{Shape, Meaning, shape_of}
+use Rattle.mojette.specs.Meaning.{Shape, Meaning, shape_of, bins_of}
 use Rattle.peeling.specs.declared.state.State.{State}
 use Rattle.peeling.specs.Steps.{World}
-use Rattle.law.specs.Steps.{Stage, peeling, Tables, Answer, granted, Outcome, world_of, tables_of, load, take, settle}
+use Rattle.law.specs.Steps.{Stage, peeling, Tables, Answer, done, granted, Outcome, peels_on, world_of, tables_of, blank, load, seal, take, settle}
 
 -- the state of a tile that is peeled; another state in any other stage
 abbrev pub state_of : Stage → State → State
@@ -28,6 +28,14 @@ module _ {S : Type 0} (K : Operations S) (shape : Shape) where
   abbrev pub turns : ℕ → World S → World S
   turns zero w = w
   turns (suc n) w = turn (turns n w)
+
+  -- What a seal answers, and leaves; where it is served, as many turns are made as there are bins, since no more are needed.
+  abbrev pub peeled_out : Answer → Outcome S → Outcome S
+  peeled_out done o = peels_on (turns (bins_of shape) (world_of (state_of o.stage blank) o.tables)) done
+  peeled_out a o = o
+
+  unfoldable pub seal_and_peel : ℕ → Tables S → Outcome S
+  seal_and_peel n t = peeled_out (seal K shape n t).answer (seal K shape n t)
 
 -- the tables after n loads
 abbrev pub loaded : {S : Type 0} → Operations S → Meaning S → ℕ → Tables S → Tables S

@@ -1,0 +1,71 @@
+-- What a refusal of a text tells.
+use Rattle.std.proofs.Common.{◌≡◌, ℕ, zero, suc, ◌+◌, ◌-◌, List, ◌∷◌, ◌++◌, length, take, sym, refl, ap, ◌∙◌, append_assoc, length-append, arith}
+use Rattle.std.proofs.lemmas.List.{take_at}
+use Rattle.samples.specs.declared.coded.Coded.{Ghosts as Codes}
+use Rattle.mojette.specs.Meaning.{Meaning}
+use Rattle.format.specs.Format.{Read, file, refused, line_ends, told, file_reader, read_file}
+use Rattle.format.specs.Readers.{fault}
+use Rattle.format.specs.Tokens.{token, after}
+use Rattle.format.specs.Wrong.{first_tokens, bytes_of, WrongToken, TellsWrong}
+use Rattle.format.proofs.OfTokens.{token_split}
+use Rattle.format.proofs.Deciding.{skip, head_same, tail_same, Decided, reads, stops, file_decides}
+use Rattle.format.proofs.LineEnds.{lines_counted}
+
+-- the bytes of the first n tokens
+abbrev front : ℕ → List ℕ → List ℕ
+front n t = bytes_of (first_tokens n t)
+
+split : (n : ℕ) (t : List ℕ) → front n t ++ skip n t ≡ t
+split zero t = refl
+split (suc n) t = append_assoc (token t) (front n (after t)) (skip n (after t)) ∙ ap (λ r. token t ++ r) (split n (after t)) ∙ token_split t
+
+size : (n : ℕ) (t : List ℕ) → length (front n t) + length (skip n t) ≡ length t
+size n t = sym (length-append (front n t) (skip n t)) ∙ ap length (split n t)
+
+begins : (n : ℕ) (t : List ℕ) → length t - length (skip n t) ≡ length (front n t)
+begins n t = let s = size n t in omega arith
+
+before : (n : ℕ) (t : List ℕ) → take (length (front n t)) t ≡ front n t
+before n t = ap (take (length (front n t))) (sym (split n t)) ∙ take_at (front n t) (skip n t) (length (front n t)) refl
+
+fewer : (n : ℕ) (s t : List ℕ) → first_tokens (suc n) s ≡ first_tokens (suc n) t → first_tokens n s ≡ first_tokens n t
+fewer zero s t e = refl
+fewer (suc n) s t e =
+    let h = head_same (token s) (token t) _ _ e in
+    let k = fewer n (after s) (after t) (tail_same (token s) (token t) _ _ e) in
+    λ i. h i ∷ k i
+
+module _ {S : Type 0} where
+  -- the refusal at the token behind n others
+  abbrev at_token : ℕ → ℕ → List ℕ → Read S
+  at_token why n t = refused (1 + line_ends (front n t)) (length (front n t)) why
+
+  tells : (why n : ℕ) (t : List ℕ) → told {S = S} t (fault (length t - length (skip n t)) why) ≡ at_token why n t
+  tells why n t =
+      ap (λ b. refused (1 + line_ends (take b t)) b why) (begins n t)
+      ∙ ap (λ w. refused (1 + line_ends w) (length (front n t)) why) (before n t)
+
+  parts : (l b w l' b' w' : ℕ) → ◌≡◌ {A = Read S} (refused l b w) (refused l' b' w') → (l ≡ l') × (b ≡ b') × (w ≡ w')
+  parts l b w l' b' w' e = (cc, cc, cc)
+
+  never : (m : Meaning S) (l b w : ℕ) → file m ≡ refused l b w → ⊥
+  never m l b w e = let z : ◌≡◌ {A = ℕ} 0 1 = cc in omega arith
+
+module _ {S : Type 0} (C : Codes S) where
+  pub tells_wrong : TellsWrong C
+  tells_wrong t line byte why h = go (file_decides C t)
+    where
+      go : Decided (λ n. file_reader C n) t → WrongToken C t line byte why
+      go (reads m j k) = absurd (never m line byte why (sym (ap (told t) (k (length t) t refl)) ∙ h))
+      go (stops y n k) =
+          let at = λ (s : List ℕ) (e : first_tokens (suc n) s ≡ first_tokens (suc n) t). ap (told s) (k (length s) s e) ∙ tells y n s in
+          let own : read_file C t ≡ at_token y n t = at t refl in
+          let p = parts _ _ _ _ _ _ (sym own ∙ h) in
+          let s = size n t in
+          record {
+            others = n;
+            begins = sym p.1;
+            inside = omega (arith, p.1);
+            line_is = sym p.0 ∙ ap (λ c. 1 + c) (lines_counted (front n t));
+            decides = λ s e. at s e ∙ ap (λ w. refused (1 + line_ends (bytes_of w)) (length (bytes_of w)) y) (fewer n s t e) ∙ sym own ∙ h;
+          }

@@ -1,0 +1,5 @@
+pub mod Words
+pub mod Notes
+pub mod Offs
+pub mod Twins
+pub mod Noting

@@ -1,0 +1,12 @@
+// Notes of the missing pixels of bins: so the last one of a bin is known without a search.
+#![tactic(auto)]
+
+pub mod cells;
+pub mod impls;
+pub mod note;
+pub mod noting;
+#[cfg(test)]
+mod tests;
+
+pub use note::Note;
+pub use noting::{MOST_BINS, note_bins};

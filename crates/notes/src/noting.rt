@@ -1,0 +1,84 @@
+// The note table of a plan: of each bin the note of all its pixels, which are missing at first.
+ghost use Rattle.std.specs.Prelude.{◌≡◌, ℕ, ◌<◌, ◌≤◌, true, length, slice_index_or};
+ghost use Rattle.mojette.specs.Bins.{bins};
+ghost use Rattle.mojette.specs.Directions.{lawful};
+ghost use Rattle.mojette.specs.Meaning.{bins_of};
+ghost use Rattle.notes.specs.Notes.{Noted};
+ghost use Rattle.notes.specs.Noting.{Numbered, note_of_place};
+ghost use Rattle.notes.specs.Words.{note_zero};
+ghost use Rattle.plan.specs.Laid.{direction_of};
+ghost use Rattle.plan.specs.Shapes.{shape};
+
+use crate::note::Note;
+use mojette::{Direction, MOST_PLACES, MOST_SIDE, MOST_STEP, Size};
+use plan::project::project;
+use plan::{Place, Plan};
+
+// The most pixels of a tile.
+const MOST_PIXELS: usize = MOST_SIDE * MOST_SIDE;
+
+// The most bins of a plan.
+pub const MOST_BINS: usize = MOST_PLACES * (2 * (MOST_SIDE - 1) * (MOST_STEP as usize) + 1);
+
+// The tile whose samples are the notes of its cells.
+fn numbered() -> [Note; MOST_PIXELS]
+    ensures { Numbered result }
+{
+    let mut tile = [Note { value: 0 }; MOST_PIXELS];
+    for c in 0..MOST_PIXELS {
+        tile[c] = Note::of_cell(c);
+    }
+    tile
+}
+
+// The direction of a place.
+fn direction_of(place: Place) -> Direction
+    requires { (place.slope ≤ 7) × (place.q ≤ 7) }
+    ensures { result ≡ direction_of place }
+{
+    let across = place.slope as i32;
+    Direction {
+        p: if place.leftward { -across } else { across },
+        q: place.q as i32,
+    }
+}
+
+// Writes the notes of the bins of one place: its projection, or zeros where it is lost. (Size and place, which a plan holds apart.)
+fn note_place(size: Size, place: Place, tile: &[Note], notes: &mut [Note])
+    requires steps { (place.slope ≤ 7) × (place.q ≤ 7) }
+    requires direction { lawful (direction_of place) ≡ true }
+    requires tile { Numbered tile.now }
+    requires room { length notes.old ≡ bins size.columns size.rows (direction_of place) }
+    ensures { (b : ℕ) → b < length notes.old → slice_index_or notes.new b note_zero ≡ note_of_place size.columns size.rows place b }
+{
+    if place.is_whole() {
+        // It can't refuse, nor is there more room than bins.
+        let _bins = project(size.columns, size.rows, direction_of(place), tile, notes);
+    } else {
+        notes.fill(Note { value: 0 });
+    }
+}
+
+// Writes the notes of the bins of all places.
+fn note_places(plan: &Plan, tile: &[Note], notes: &mut [Note])
+    requires tile { Numbered tile.now }
+    requires room { bins_of (shape plan.now) ≤ length notes.old }
+    ensures { Noted (shape plan.now) notes.new }
+{
+    let size = plan.size();
+    for place in plan.places() {
+        note_place(
+            size,
+            *place,
+            tile,
+            &mut notes[place.start..place.start + place.bins],
+        );
+    }
+}
+
+// Sets each note to that of all the pixels of its bin, zero in lost places.
+pub fn note_bins(plan: &Plan, notes: &mut [Note; MOST_BINS])
+    ensures { Noted (shape plan.now) notes.new }
+{
+    note_places(plan, &numbered(), notes);
+}
