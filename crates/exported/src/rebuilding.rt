@@ -1,5 +1,9 @@
 // Rebuilding a tile from a rack.
 
+ghost use Rattle.std.specs.Prelude.{◌≡◌, ℕ, ◌<◌, slice_index_or};
+ghost use Rattle.source.specs.Questions.{no_record};
+ghost use Rattle.exported.specs.Places.{record_of};
+
 use crate::words::{MOST_BINS, MOST_PIXELS, ZERO, numbers_of, record_at, words_of};
 use mojette::{MOST_PLACES, Record};
 use plan::Plan;
@@ -7,7 +11,9 @@ use runs::rebuild::rebuild;
 use source::Rack;
 
 // The records of the places, by their numbers.
-fn records_of(p: &[i32], q: &[i32], causes: &[u8]) -> [Record; MOST_PLACES] {
+fn records_of(p: &[i32], q: &[i32], causes: &[u8]) -> [Record; MOST_PLACES]
+    ensures { (i : ℕ) → i < 16 → slice_index_or result i no_record ≡ record_of p.now q.now causes.now i }
+{
     let mut records = [Record::new(0, 0, 0); MOST_PLACES];
     for (i, entry) in records.iter_mut().enumerate() {
         *entry = record_at(p, q, causes, i);
