@@ -23,7 +23,6 @@ use Rattle.notes.specs.Notes.{notes, note_of_cell}
 use Rattle.notes.specs.Twins.{Follows, Twins, Beyond}
 use Rattle.notes.proofs.Beyond.{settle_beyond}
 
-
 module _ {S : Type 0} (K : Operations S) (s : Shape) (fits : bins_of s ≤ most) (w : World S) (t : World Note) (twins : Twins s w t) where
   kept : Kept notes (incidence s) (noted notes (incidence s) note_of_cell) twins.history t
   kept = run_kept notes (incidence s) fits (noted notes (incidence s) note_of_cell) twins.run
@@ -105,12 +104,12 @@ module _ {S : Type 0} (K : Operations S) (s : Shape) (fits : bins_of s ≤ most)
       pub turned_twins : Twins s (turn K s w) (turn notes s t)
       turned_twins = subst₂ (Twins s) (sym turned_w)
           (ap (λ x. settle notes (incidence s) x (take notes (incidence s) t)) front_same ∙ sym turned_t) (record {
-        beside = subst (λ x. Beside (settle K (incidence s) (front (bins_of s) w.state w.queue) (take K (incidence s) w)) (settle notes (incidence s) x (take notes (incidence s) t))) (sym front_same)
-            (settle_beside K notes (incidence s) (front (bins_of s) w.state w.queue) _ _ (take_beside K notes (incidence s) w t twins.beside));
-        history = settled (front (bins_of s) t.state t.queue) ∷ took (front (bins_of s) t.state t.queue) ∷ twins.history;
-        run = turned_run notes (incidence s) fits _ twins.history t twins.run some_t;
-        none_out = turned_none_out notes (incidence s) fits _ twins.history t twins.run some_t twins.none_out;
-      })
+            beside = subst (λ x. Beside (settle K (incidence s) (front (bins_of s) w.state w.queue) (take K (incidence s) w)) (settle notes (incidence s) x (take notes (incidence s) t))) (sym front_same)
+                (settle_beside K notes (incidence s) (front (bins_of s) w.state w.queue) _ _ (take_beside K notes (incidence s) w t twins.beside));
+            history = settled (front (bins_of s) t.state t.queue) ∷ took (front (bins_of s) t.state t.queue) ∷ twins.history;
+            run = turned_run notes (incidence s) fits _ twins.history t twins.run some_t;
+            none_out = turned_none_out notes (incidence s) fits _ twins.history t twins.run some_t twins.none_out;
+          })
 
       pub turned_beyond : Beyond (bins_of s) w.counts (turn K s w).counts
       turned_beyond = subst (λ x. Beyond (bins_of s) w.counts x.counts) (sym turned_w) (settle_beyond K (incidence s) (front (bins_of s) w.state w.queue) (take K (incidence s) w))
