@@ -8,19 +8,12 @@ use super::source::{Sizes, Source};
 use std::marker::PhantomData;
 use std::num::NonZeroU8;
 
-#[derive(Clone, Copy, PartialEq, Eq)]
+#[derive(Clone, Copy)]
 enum Mark {
     Open,
     Close,
     Space,
     Newline,
-}
-
-#[derive(Clone, Copy)]
-enum Token<'a> {
-    Mark(Mark),
-    End,
-    Word(&'a [u8]),
 }
 
 #[derive(Clone, Copy)]
@@ -58,6 +51,19 @@ impl Mark {
             _ => None,
         }
     }
+
+    fn byte(self) -> u8 {
+        match self {
+            Mark::Open => b'(',
+            Mark::Close => b')',
+            Mark::Space => b' ',
+            Mark::Newline => b'\n',
+        }
+    }
+}
+
+fn run_len(text: &[u8]) -> usize {
+    text.iter().take_while(|b| Mark::of(**b).is_none()).count()
 }
 
 fn wrong(byte: usize) -> TextFault {
@@ -150,42 +156,39 @@ fn start_of(word: &[u8], first: bool, room: bool) -> Result<Start, Reason> {
 }
 
 impl<'a> Lexer<'a> {
-    fn next(&mut self) -> Token<'a> {
-        let text = self.text;
-        let rest = &text[self.at..];
-        let Some(first) = rest.first() else {
-            return Token::End;
-        };
-        if let Some(mark) = Mark::of(*first) {
-            self.at += 1;
-            return Token::Mark(mark);
-        }
-        let size = rest.iter().take_while(|b| Mark::of(**b).is_none()).count();
-        self.at += size;
-        Token::Word(&rest[..size])
-    }
-
     fn mark(&mut self, want: Mark) -> Result<(), TextFault> {
-        let byte = self.at;
-        match self.next() {
-            Token::Mark(found) if found == want => Ok(()),
-            _ => Err(wrong(byte)),
+        match self.text.get(self.at) {
+            Some(found) if *found == want.byte() => {
+                self.at += 1;
+                Ok(())
+            }
+            _ => Err(wrong(self.at)),
         }
     }
 
     fn end(&mut self) -> Result<(), TextFault> {
-        let byte = self.at;
-        match self.next() {
-            Token::End => Ok(()),
-            _ => Err(wrong(byte)),
+        if self.at == self.text.len() {
+            Ok(())
+        } else {
+            Err(wrong(self.at))
         }
     }
 
-    fn accept<T>(&mut self, read: impl FnOnce(&[u8]) -> Result<T, Reason>) -> Result<T, TextFault> {
+    fn take_word(&mut self) -> Result<(&'a [u8], usize), TextFault> {
         let byte = self.at;
-        let Token::Word(word) = self.next() else {
+        let text = self.text;
+        let rest = &text[self.at..];
+        let size = run_len(rest);
+        if size == 0 {
+            self.at += rest.len().min(1);
             return Err(wrong(byte));
-        };
+        }
+        self.at += size;
+        Ok((&rest[..size], byte))
+    }
+
+    fn accept<T>(&mut self, read: impl FnOnce(&[u8]) -> Result<T, Reason>) -> Result<T, TextFault> {
+        let (word, byte) = self.take_word()?;
         read(word).map_err(|reason| TextFault { byte, reason })
     }
 

@@ -2,20 +2,12 @@
 ghost use Rattle.std.specs.Prelude.{◌≤◌, length};
 
 // A byte that is a token by itself.
-#[derive(Clone, Copy, PartialEq, Eq)]
+#[derive(Clone, Copy)]
 pub(crate) enum Mark {
     Open,
     Close,
     Space,
     Newline,
-}
-
-// A token. A word is a part of the text.
-#[derive(Clone, Copy)]
-pub(crate) enum Token<'a> {
-    Mark(Mark),
-    End,
-    Word(&'a [u8]),
 }
 
 // A text that is read up to a byte. The whole text stays beside it, since a fault tells the byte.

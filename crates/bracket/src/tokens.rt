@@ -3,10 +3,9 @@ ghost use Rattle.std.specs.Prelude.{◌≡◌, ◌≤◌, [], ◌∷◌, length,
 ghost use Rattle.std.specs.Fn.{FnOnceReturnsAt};
 ghost use Rattle.mojette.specs.declared.fault.Reason.TheVariants as reasons;
 ghost use Rattle.format.specs.Readers.{expect};
-ghost use Rattle.format.specs.Tokens.{after};
-ghost use Rattle.bracket.specs.Lexing.{left, place, mark_byte, mark_of, is_marked, IsToken, Reads, Takes, TakesWord};
+ghost use Rattle.bracket.specs.Lexing.{left, place, mark_byte, mark_of, is_marked, Reads, Takes, TakesWord};
 
-use crate::lexer::{Lexer, Mark, Token};
+use crate::lexer::{Lexer, Mark};
 use mojette::{Reason, TextFault};
 
 impl Mark {
@@ -20,6 +19,17 @@ impl Mark {
             b' ' => Some(Mark::Space),
             b'\n' => Some(Mark::Newline),
             _ => None,
+        }
+    }
+
+    fn byte(self) -> u8
+        ensures { result ≡ mark_byte self }
+    {
+        match self {
+            Mark::Open => b'(',
+            Mark::Close => b')',
+            Mark::Space => b' ',
+            Mark::Newline => b'\n',
         }
     }
 }
@@ -56,38 +66,16 @@ impl<'a> Lexer<'a> {
         self.at
     }
 
-    fn next(&mut self) -> Token<'a>
-        ensures is { IsToken (left self.old) result }
-        ensures rest { left self.new ≡ after (left self.old) }
-        ensures same { self.new.text.now ≡ self.old.text.now }
-    {
-        let text = self.text;
-        let rest = &text[self.at..];
-        let Some(first) = rest.first() else {
-            return Token::End;
-        };
-        if let Some(mark) = Mark::of(*first) {
-            self.at += 1;
-            return Token::Mark(mark);
-        }
-        let size = run_len(rest);
-        self.at += size;
-        Token::Word(&rest[..size])
-    }
-
-    // The mark `want`. Here and in the next two functions another token is let through, each by a `let .. else` of its own, which is one of the forms
-    // that docs/DECISIONS.md names.
+    // The mark `want`. A mark is one byte, and at any other byte some other token stands.
     pub(crate) fn mark(&mut self, want: Mark) -> Result<(), TextFault>
         ensures { Reads (λ n. expect n (mark_byte want ∷ [])) self.old result self.new }
     {
-        let byte = self.byte();
-        let Token::Mark(found) = self.next() else {
-            return Err(wrong(byte));
-        };
-        if found == want {
-            Ok(())
-        } else {
-            Err(wrong(byte))
+        match self.text.get(self.at) {
+            Some(found) if *found == want.byte() => {
+                self.at += 1;
+                Ok(())
+            }
+            _ => Err(wrong(self.byte())),
         }
     }
 
@@ -95,22 +83,27 @@ impl<'a> Lexer<'a> {
     pub(crate) fn end(&mut self) -> Result<(), TextFault>
         ensures { Reads (λ n. expect n ([])) self.old result self.new }
     {
-        let byte = self.byte();
-        let Token::End = self.next() else {
-            return Err(wrong(byte));
-        };
-        Ok(())
+        if self.at == self.text.len() {
+            Ok(())
+        } else {
+            Err(wrong(self.byte()))
+        }
     }
 
-    // The next word, with the place of its first byte.
+    // The next word, with the place of its first byte. Another token is passed too, a mark or the end.
     pub(crate) fn take_word(&mut self) -> Result<(&'a [u8], usize), TextFault>
         ensures { TakesWord self.old result self.new }
     {
         let byte = self.byte();
-        let Token::Word(word) = self.next() else {
+        let text = self.text;
+        let rest = &text[self.at..];
+        let size = run_len(rest);
+        if size == 0 {
+            self.at += rest.len().min(1);
             return Err(wrong(byte));
-        };
-        Ok((word, byte))
+        }
+        self.at += size;
+        Ok((&rest[..size], byte))
     }
 
     // A word as `read` reads it, which says why it is wrong.
