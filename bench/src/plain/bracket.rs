@@ -17,6 +17,13 @@ enum Mark {
 }
 
 #[derive(Clone, Copy)]
+enum Token<'a> {
+    Mark,
+    End,
+    Word(&'a [u8]),
+}
+
+#[derive(Clone, Copy)]
 enum Held {
     Bins(usize),
     Lost(NonZeroU8),
@@ -141,6 +148,16 @@ fn q_of(word: &[u8], p: i32, last: Option<Direction>) -> Result<Direction, Reaso
     Ok(direction)
 }
 
+fn first_code<K: Coded>(text: &[u8]) -> Option<K> {
+    let width = K::digits();
+    let sample = read_code::<K>(text.get(..width)?)?;
+    if run_len(&text[width..]) == 0 {
+        Some(sample)
+    } else {
+        None
+    }
+}
+
 enum Start {
     Dir,
     End,
@@ -166,34 +183,43 @@ impl<'a> Lexer<'a> {
         }
     }
 
-    fn end(&mut self) -> Result<(), TextFault> {
-        if self.at == self.text.len() {
-            Ok(())
-        } else {
-            Err(wrong(self.at))
-        }
-    }
-
-    fn take_word(&mut self) -> Result<(&'a [u8], usize), TextFault> {
-        let byte = self.at;
+    fn next(&mut self) -> Token<'a> {
         let text = self.text;
         let rest = &text[self.at..];
-        let size = run_len(rest);
-        if size == 0 {
-            self.at += rest.len().min(1);
-            return Err(wrong(byte));
+        let Some(first) = rest.first() else {
+            return Token::End;
+        };
+        if Mark::of(*first).is_some() {
+            self.at += 1;
+            return Token::Mark;
         }
+        let size = run_len(rest);
         self.at += size;
-        Ok((&rest[..size], byte))
+        Token::Word(&rest[..size])
+    }
+
+    fn end(&mut self) -> Result<(), TextFault> {
+        let byte = self.at;
+        let Token::End = self.next() else {
+            return Err(wrong(byte));
+        };
+        Ok(())
     }
 
     fn accept<T>(&mut self, read: impl FnOnce(&[u8]) -> Result<T, Reason>) -> Result<T, TextFault> {
-        let (word, byte) = self.take_word()?;
+        let byte = self.at;
+        let Token::Word(word) = self.next() else {
+            return Err(wrong(byte));
+        };
         read(word).map_err(|reason| TextFault { byte, reason })
     }
 
     fn code<K: Coded>(&mut self) -> Result<K, TextFault> {
-        self.accept(|word| read_code::<K>(word).ok_or(Reason::Token))
+        let Some(sample) = first_code::<K>(&self.text[self.at..]) else {
+            return Err(wrong(self.at));
+        };
+        self.at += K::digits();
+        Ok(sample)
     }
 
     fn held<K: Coded>(&mut self, bins: usize) -> Result<Held, TextFault> {

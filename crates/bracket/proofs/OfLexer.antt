@@ -1,13 +1,14 @@
 -- The first token of a text that begins with no mark.
-use Rattle.std.proofs.Common.{◌≡◌, ℕ, ◌+◌, ◌<◌, Bool, true, false, cond, not, ◌||◌, is_some, Some, None, ◌==◌, List, [], ◌∷◌, length, take, drop, sym, refl, ap, ◌∙◌, subst, arith}
+use Rattle.std.proofs.Common.{◌≡◌, ℕ, ◌+◌, ◌<◌, Bool, true, false, cond, not, ◌||◌, is_some, Some, None, ◌==◌, List, [], ◌∷◌, length, get_or, take, drop, sym, refl, ap, ◌∙◌, subst, arith}
 use Rattle.std.proofs.lemmas.List.{take_at, drop-drop}
 use Rattle.std.specs.List.{take_while}
+use Rattle.std.proofs.lemmas.Bool.{cond-false}
 use Rattle.std.proofs.lemmas.List.Sums.{take_while-cons}
 use Rattle.samples.specs.Names.{mark, Unmarked, IsWord}
 use Rattle.format.specs.Tokens.{run, token, after}
 use Rattle.format.proofs.OfTokens.{run_split}
 use Rattle.bracket.specs.declared.lexer.Mark.TheVariants.{Open, Close, Space, Newline}
-use Rattle.bracket.specs.Lexing.{is_marked}
+use Rattle.bracket.specs.Lexing.{mark_of, is_marked}
 
 -- The marks ----------------------------------------------------------------------------------------------------------
 
@@ -20,6 +21,9 @@ is_mark b = go (b == 40) (b == 41) (b == 32) (b == 10)
     go false false true z = refl
     go false false false true = refl
     go false false false false = refl
+
+pub no_mark : (b : ℕ) → mark_of b ≡ None → mark b ≡ false
+no_mark b e = sym (is_mark b) ∙ ap is_some e
 
 -- The longest run -----------------------------------------------------------------------------------------------------
 
@@ -49,18 +53,17 @@ pub record FirstWord (at n : ℕ) (text bs : List ℕ) : Type 0 where
   pub word : IsWord (token (drop at text))
   pub rest : drop (at + n) text ≡ after (drop at text)
 
-first_word : (bs : List ℕ) → 0 < length (run bs) → (token bs ≡ run bs) × IsWord (token bs)
-first_word [] l = absurd (omega arith)
-first_word (b ∷ bs) l = go (mark b) refl l
-  where
-    go : (m : Bool) → mark b ≡ m → 0 < length (cond m [] (b ∷ run bs))
-        → (cond m (b ∷ []) (b ∷ run bs) ≡ cond m [] (b ∷ run bs)) × IsWord (cond m (b ∷ []) (b ∷ run bs))
-    go true e l = absurd (omega arith)
-    go false e l = (refl, (e, run_unmarked bs))
+first_word : (bs : List ℕ) → 0 < length bs → mark (get_or bs 0 0) ≡ false → (token bs ≡ run bs) × IsWord (token bs)
+first_word [] l m = absurd (omega arith)
+first_word (b ∷ bs) l m =
+    let t = cond-false (mark b) (b ∷ []) (b ∷ run bs) m in
+    (t ∙ sym (cond-false (mark b) [] (b ∷ run bs) m), subst IsWord (sym t) (m, run_unmarked bs))
 
-pub next_word : (at n : ℕ) (text bs : List ℕ) → bs ≡ drop at text → n ≡ length (run bs) → 0 < n → FirstWord at n text bs
-next_word at n text bs e s l =
-    let f = first_word bs (subst (λ k. 0 < k) s l) in
+pub next_word :
+    (at n : ℕ) (text bs : List ℕ) → bs ≡ drop at text → 0 < length bs → mark (get_or bs 0 0) ≡ false → n ≡ length (run bs)
+    → FirstWord at n text bs
+next_word at n text bs e l m s =
+    let f = first_word bs l m in
     record {
       front = ap (λ j. take j bs) s ∙ run_front bs ∙ sym f.0 ∙ ap token e;
       word = subst (λ x. IsWord (token x)) e f.1;

@@ -11,6 +11,8 @@ use Rattle.format.specs.Tokens.{token, after}
 use Rattle.bracket.specs.declared.lexer.Lexer.{Lexer}
 use Rattle.bracket.specs.declared.lexer.Mark.{Mark}
 use Rattle.bracket.specs.declared.lexer.Mark.TheVariants.{Open, Close, Space, Newline}
+use Rattle.bracket.specs.declared.lexer.Token.{Token}
+use Rattle.bracket.specs.declared.lexer.Token.TheVariants as tokens
 
 -- the bytes that are left
 abbrev pub left : Lexer → List ℕ
@@ -37,6 +39,12 @@ mark_of b =
 
 abbrev pub is_marked : ℕ → Bool
 is_marked b = is_some (mark_of b)
+
+-- t is the first token of bs
+abbrev pub IsToken : List ℕ → Token → Type 0
+IsToken bs (tokens.Mark m) = token bs ≡ mark_byte m ∷ []
+IsToken bs tokens.End = token bs ≡ []
+IsToken bs (tokens.Word w) = (w.now ≡ token bs) × IsWord (token bs)
 
 -- what a word is worth, as a call that reads it answers, where it keeps something by which the value is found
 abbrev pub worth_as : {A B : Type 0} → (A → B) → Result A Reason → Worth B

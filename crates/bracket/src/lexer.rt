@@ -10,6 +10,14 @@ pub(crate) enum Mark {
     Newline,
 }
 
+// A token. A word is a part of the text.
+#[derive(Clone, Copy)]
+pub(crate) enum Token<'a> {
+    Mark(Mark),
+    End,
+    Word(&'a [u8]),
+}
+
 // A text that is read up to a byte. The whole text stays beside it, since a fault tells the byte.
 #[derive(Drop)]
 pub(crate) struct Lexer<'a> {

@@ -3,9 +3,10 @@ ghost use Rattle.std.specs.Prelude.{◌≡◌, ◌≤◌, [], ◌∷◌, length,
 ghost use Rattle.std.specs.Fn.{FnOnceReturnsAt};
 ghost use Rattle.mojette.specs.declared.fault.Reason.TheVariants as reasons;
 ghost use Rattle.format.specs.Readers.{expect};
-ghost use Rattle.bracket.specs.Lexing.{left, place, mark_byte, mark_of, is_marked, Reads, Takes, TakesWord};
+ghost use Rattle.format.specs.Tokens.{after};
+ghost use Rattle.bracket.specs.Lexing.{left, place, mark_byte, mark_of, is_marked, IsToken, Reads, Takes, TakesWord};
 
-use crate::lexer::{Lexer, Mark};
+use crate::lexer::{Lexer, Mark, Token};
 use mojette::{Reason, TextFault};
 
 impl Mark {
@@ -35,7 +36,7 @@ impl Mark {
 }
 
 // How many bytes the text has before the first mark.
-fn run_len(text: &[u8]) -> usize
+pub(crate) fn run_len(text: &[u8]) -> usize
     ensures within { result ≤ length text.now }
     ensures value { result ≡ length (take_while (λ b. not (is_marked b)) text.now) }
 {
@@ -43,7 +44,7 @@ fn run_len(text: &[u8]) -> usize
 }
 
 // The token at a byte is not the one that belongs there.
-fn wrong(byte: usize) -> TextFault
+pub(crate) fn wrong(byte: usize) -> TextFault
     ensures { result ≡ record { byte = byte; reason = reasons.Token } }
 {
     TextFault {
@@ -60,13 +61,32 @@ impl<'a> Lexer<'a> {
     }
 
     // The place of the next token.
-    fn byte(&self) -> usize
+    pub(crate) fn byte(&self) -> usize
         ensures { result ≡ place self.now }
     {
         self.at
     }
 
-    // The mark `want`. A mark is one byte, and at any other byte some other token stands.
+    fn next(&mut self) -> Token<'a>
+        ensures is { IsToken (left self.old) result }
+        ensures rest { left self.new ≡ after (left self.old) }
+        ensures same { self.new.text.now ≡ self.old.text.now }
+    {
+        let text = self.text;
+        let rest = &text[self.at..];
+        let Some(first) = rest.first() else {
+            return Token::End;
+        };
+        if let Some(mark) = Mark::of(*first) {
+            self.at += 1;
+            return Token::Mark(mark);
+        }
+        let size = run_len(rest);
+        self.at += size;
+        Token::Word(&rest[..size])
+    }
+
+    // The mark `want`. A mark is one byte, and at any other byte another token stands.
     pub(crate) fn mark(&mut self, want: Mark) -> Result<(), TextFault>
         ensures { Reads (λ n. expect n (mark_byte want ∷ [])) self.old result self.new }
     {
@@ -79,31 +99,27 @@ impl<'a> Lexer<'a> {
         }
     }
 
-    // The end of the text.
+    // The end of the text. Here and in the next function another token is let through, each by a `let .. else` of its own, which is one of the forms
+    // that docs/DECISIONS.md names.
     pub(crate) fn end(&mut self) -> Result<(), TextFault>
         ensures { Reads (λ n. expect n ([])) self.old result self.new }
     {
-        if self.at == self.text.len() {
-            Ok(())
-        } else {
-            Err(wrong(self.byte()))
-        }
+        let byte = self.byte();
+        let Token::End = self.next() else {
+            return Err(wrong(byte));
+        };
+        Ok(())
     }
 
-    // The next word, with the place of its first byte. Another token is passed too, a mark or the end.
+    // The next word, with the place of its first byte.
     pub(crate) fn take_word(&mut self) -> Result<(&'a [u8], usize), TextFault>
         ensures { TakesWord self.old result self.new }
     {
         let byte = self.byte();
-        let text = self.text;
-        let rest = &text[self.at..];
-        let size = run_len(rest);
-        if size == 0 {
-            self.at += rest.len().min(1);
+        let Token::Word(word) = self.next() else {
             return Err(wrong(byte));
-        }
-        self.at += size;
-        Ok((&rest[..size], byte))
+        };
+        Ok((word, byte))
     }
 
     // A word as `read` reads it, which says why it is wrong.
