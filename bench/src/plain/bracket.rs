@@ -8,7 +8,7 @@ use super::source::{Sizes, Source};
 use std::marker::PhantomData;
 use std::num::NonZeroU8;
 
-#[derive(Clone, Copy, PartialEq, Eq)]
+#[derive(Clone, Copy)]
 enum Mark {
     Open,
     Close,
@@ -18,7 +18,7 @@ enum Mark {
 
 #[derive(Clone, Copy)]
 enum Token<'a> {
-    Mark(Mark),
+    Mark,
     End,
     Word(&'a [u8]),
 }
@@ -58,6 +58,19 @@ impl Mark {
             _ => None,
         }
     }
+
+    fn byte(self) -> u8 {
+        match self {
+            Mark::Open => b'(',
+            Mark::Close => b')',
+            Mark::Space => b' ',
+            Mark::Newline => b'\n',
+        }
+    }
+}
+
+fn run_len(text: &[u8]) -> usize {
+    text.iter().take_while(|b| Mark::of(**b).is_none()).count()
 }
 
 fn wrong(byte: usize) -> TextFault {
@@ -135,6 +148,16 @@ fn q_of(word: &[u8], p: i32, last: Option<Direction>) -> Result<Direction, Reaso
     Ok(direction)
 }
 
+fn first_code<K: Coded>(text: &[u8]) -> Option<K> {
+    let width = K::digits();
+    let sample = read_code::<K>(text.get(..width)?)?;
+    if run_len(&text[width..]) == 0 {
+        Some(sample)
+    } else {
+        None
+    }
+}
+
 enum Start {
     Dir,
     End,
@@ -150,35 +173,37 @@ fn start_of(word: &[u8], first: bool, room: bool) -> Result<Start, Reason> {
 }
 
 impl<'a> Lexer<'a> {
+    fn mark(&mut self, want: Mark) -> Result<(), TextFault> {
+        match self.text.get(self.at) {
+            Some(found) if *found == want.byte() => {
+                self.at += 1;
+                Ok(())
+            }
+            _ => Err(wrong(self.at)),
+        }
+    }
+
     fn next(&mut self) -> Token<'a> {
         let text = self.text;
         let rest = &text[self.at..];
         let Some(first) = rest.first() else {
             return Token::End;
         };
-        if let Some(mark) = Mark::of(*first) {
+        if Mark::of(*first).is_some() {
             self.at += 1;
-            return Token::Mark(mark);
+            return Token::Mark;
         }
-        let size = rest.iter().take_while(|b| Mark::of(**b).is_none()).count();
+        let size = run_len(rest);
         self.at += size;
         Token::Word(&rest[..size])
     }
 
-    fn mark(&mut self, want: Mark) -> Result<(), TextFault> {
-        let byte = self.at;
-        match self.next() {
-            Token::Mark(found) if found == want => Ok(()),
-            _ => Err(wrong(byte)),
-        }
-    }
-
     fn end(&mut self) -> Result<(), TextFault> {
         let byte = self.at;
-        match self.next() {
-            Token::End => Ok(()),
-            _ => Err(wrong(byte)),
-        }
+        let Token::End = self.next() else {
+            return Err(wrong(byte));
+        };
+        Ok(())
     }
 
     fn accept<T>(&mut self, read: impl FnOnce(&[u8]) -> Result<T, Reason>) -> Result<T, TextFault> {
@@ -190,7 +215,11 @@ impl<'a> Lexer<'a> {
     }
 
     fn code<K: Coded>(&mut self) -> Result<K, TextFault> {
-        self.accept(|word| read_code::<K>(word).ok_or(Reason::Token))
+        let Some(sample) = first_code::<K>(&self.text[self.at..]) else {
+            return Err(wrong(self.at));
+        };
+        self.at += K::digits();
+        Ok(sample)
     }
 
     fn held<K: Coded>(&mut self, bins: usize) -> Result<Held, TextFault> {

@@ -1,4 +1,5 @@
 pub mod OfLexer
+pub mod OfCodes
 pub mod OfNumerals
 pub mod OfDirections
 pub mod OfFound

@@ -10,7 +10,8 @@ ghost use Rattle.bracket.specs.Lines.{is_bins, is_dir, start_reader};
 
 use crate::lexer::{Lexer, Mark};
 use crate::line::{Holding, Start};
-use crate::words::{cause_of, exactly, holding_of, p_of, q_of, sample_of, side_of, start_of};
+use crate::tokens::wrong;
+use crate::words::{cause_of, exactly, first_code, holding_of, p_of, q_of, side_of, start_of};
 use mojette::{Direction, TextFault};
 use samples::Coded;
 use std::num::NonZeroU8;
@@ -91,8 +92,10 @@ impl<'a> Lexer<'a> {
     pub(crate) fn code<K: Coded>(&mut self) -> Result<K, TextFault>
         ensures { Reads (λ n. accept n (code_word K.Coded.own)) self.old result self.new }
     {
-        // `accept` takes no function whose result is of a type parameter
-        let (word, byte) = self.take_word()?;
-        sample_of::<K>(word).map_err(|reason| TextFault { byte, reason })
+        let Some(sample) = first_code::<K>(&self.text[self.at..]) else {
+            return Err(wrong(self.byte()));
+        };
+        self.at += K::digits();
+        Ok(sample)
     }
 }

@@ -22,10 +22,21 @@ impl Mark {
             _ => None,
         }
     }
+
+    fn byte(self) -> u8
+        ensures { result ≡ mark_byte self }
+    {
+        match self {
+            Mark::Open => b'(',
+            Mark::Close => b')',
+            Mark::Space => b' ',
+            Mark::Newline => b'\n',
+        }
+    }
 }
 
 // How many bytes the text has before the first mark.
-fn run_len(text: &[u8]) -> usize
+pub(crate) fn run_len(text: &[u8]) -> usize
     ensures within { result ≤ length text.now }
     ensures value { result ≡ length (take_while (λ b. not (is_marked b)) text.now) }
 {
@@ -33,7 +44,7 @@ fn run_len(text: &[u8]) -> usize
 }
 
 // The token at a byte is not the one that belongs there.
-fn wrong(byte: usize) -> TextFault
+pub(crate) fn wrong(byte: usize) -> TextFault
     ensures { result ≡ record { byte = byte; reason = reasons.Token } }
 {
     TextFault {
@@ -50,7 +61,7 @@ impl<'a> Lexer<'a> {
     }
 
     // The place of the next token.
-    fn byte(&self) -> usize
+    pub(crate) fn byte(&self) -> usize
         ensures { result ≡ place self.now }
     {
         self.at
@@ -75,23 +86,21 @@ impl<'a> Lexer<'a> {
         Token::Word(&rest[..size])
     }
 
-    // The mark `want`. Here and in the next two functions another token is let through, each by a `let .. else` of its own, which is one of the forms
-    // that docs/DECISIONS.md names.
+    // The mark `want`. A mark is one byte, and at any other byte another token stands.
     pub(crate) fn mark(&mut self, want: Mark) -> Result<(), TextFault>
         ensures { Reads (λ n. expect n (mark_byte want ∷ [])) self.old result self.new }
     {
-        let byte = self.byte();
-        let Token::Mark(found) = self.next() else {
-            return Err(wrong(byte));
-        };
-        if found == want {
-            Ok(())
-        } else {
-            Err(wrong(byte))
+        match self.text.get(self.at) {
+            Some(found) if *found == want.byte() => {
+                self.at += 1;
+                Ok(())
+            }
+            _ => Err(wrong(self.byte())),
         }
     }
 
-    // The end of the text.
+    // The end of the text. Here and in the next function another token is let through, each by a `let .. else` of its own, which is one of the forms
+    // that docs/DECISIONS.md names.
     pub(crate) fn end(&mut self) -> Result<(), TextFault>
         ensures { Reads (λ n. expect n ([])) self.old result self.new }
     {
