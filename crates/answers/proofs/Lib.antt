@@ -1,3 +1,4 @@
 pub mod Listings
 pub mod Shown
 pub mod Texts
+pub mod Lengths

@@ -18,6 +18,10 @@ most_pixels = 4096
 abbrev pub most_bins : ℕ
 most_bins = 8192
 
+-- the most bytes that the program has room for when it prints
+abbrev pub most_output : ℕ
+most_output = 65536
+
 -- too long an input, or too many bins
 abbrev pub oversize : Refusal
 oversize = refusal 22 0 0 0

@@ -1,5 +1,5 @@
 // The answer to a text: from bytes to bytes.
-ghost use Rattle.std.specs.Prelude.{◌≡◌, replicate};
+ghost use Rattle.std.specs.Prelude.{◌≡◌, ◌≤◌, length, replicate};
 ghost use Rattle.mojette.specs.Faults.{outcome};
 ghost use Rattle.samples.specs.contracts.codes.PairSumWordXorWordCoded.TheImpl.{ghosts as pair_codes};
 ghost use Rattle.samples.specs.contracts.codes.SumWordCoded.TheImpl.{ghosts as sum_codes};
@@ -10,7 +10,7 @@ ghost use Rattle.format.specs.Kinds.{pair_operations};
 ghost use Rattle.writing.specs.Splices.{filling};
 ghost use Rattle.answers.specs.Answers.{text_answer, program_answer};
 ghost use Rattle.answers.specs.Law.{Prints, Answers};
-ghost use Rattle.answers.specs.Tiles.{most_pixels, most_bins};
+ghost use Rattle.answers.specs.Tiles.{most_pixels, most_bins, most_output};
 
 use crate::show::{MOST_BINS, MOST_PIXELS, show};
 use bracket::{BracketFile, KindName, kind_of};
@@ -20,6 +20,8 @@ use writing::listing::write_refusal;
 
 // The most bytes of an input.
 pub const MOST_BYTES: usize = 65_536;
+// Room for every answer: the longest is the ghost of a tile of 64 by 64 pairs.
+pub const MOST_OUTPUT: usize = 65_536;
 
 // What is printed of a text by the reader of one kind.
 fn answer_as<K: Coded>(
@@ -31,6 +33,7 @@ fn answer_as<K: Coded>(
     requires picture { picture.old ≡ replicate most_pixels K.Kind.zero }
     requires sums { sums.old ≡ replicate most_bins K.Kind.zero }
     ensures text { (outcome result, out.new) ≡ filling (text_answer K.Kind K.Coded.own text.now) out.old }
+    ensures fits { length (text_answer K.Kind K.Coded.own text.now) ≤ most_output }
     ensures law { Prints K.Kind K.Coded.own text.now (text_answer K.Kind K.Coded.own text.now) }
 {
     match BracketFile::<K>::read(text) {
@@ -42,6 +45,7 @@ fn answer_as<K: Coded>(
 // The same for sum words.
 fn answer_sums(text: &[u8], out: &mut [u8]) -> Result<usize, Fault>
     ensures text { (outcome result, out.new) ≡ filling (text_answer sum_operations sum_codes text.now) out.old }
+    ensures fits { length (text_answer sum_operations sum_codes text.now) ≤ most_output }
     ensures law { Prints sum_operations sum_codes text.now (text_answer sum_operations sum_codes text.now) }
 {
     let zero = SumWord::zero_sample();
@@ -52,6 +56,7 @@ fn answer_sums(text: &[u8], out: &mut [u8]) -> Result<usize, Fault>
 // The same for XOR words.
 fn answer_xors(text: &[u8], out: &mut [u8]) -> Result<usize, Fault>
     ensures text { (outcome result, out.new) ≡ filling (text_answer xor_operations xor_codes text.now) out.old }
+    ensures fits { length (text_answer xor_operations xor_codes text.now) ≤ most_output }
     ensures law { Prints xor_operations xor_codes text.now (text_answer xor_operations xor_codes text.now) }
 {
     let zero = XorWord::zero_sample();
@@ -62,6 +67,7 @@ fn answer_xors(text: &[u8], out: &mut [u8]) -> Result<usize, Fault>
 // The same for pairs.
 fn answer_pairs(text: &[u8], out: &mut [u8]) -> Result<usize, Fault>
     ensures text { (outcome result, out.new) ≡ filling (text_answer pair_operations pair_codes text.now) out.old }
+    ensures fits { length (text_answer pair_operations pair_codes text.now) ≤ most_output }
     ensures law { Prints pair_operations pair_codes text.now (text_answer pair_operations pair_codes text.now) }
 {
     let zero = Pair::<SumWord, XorWord>::zero_sample();
@@ -69,10 +75,11 @@ fn answer_pairs(text: &[u8], out: &mut [u8]) -> Result<usize, Fault>
     answer_as(text, &mut picture, &mut sums, out)
 }
 
-// Writes what the program prints for an input, of any content and length, and answers how many bytes that is. An output too short for it is refused.
-// Where a text names no kind, any reader tells why.
+// Writes what the program prints for an input, of any content and length, and answers how many bytes that is. An output too short for it is refused,
+// which one of `MOST_OUTPUT` bytes never is. Where a text names no kind, any reader tells why.
 pub fn answer(text: &[u8], out: &mut [u8]) -> Result<usize, Fault>
     ensures text { (outcome result, out.new) ≡ filling (program_answer text.now) out.old }
+    ensures fits { length (program_answer text.now) ≤ most_output }
     ensures law { Answers text.now (program_answer text.now) }
 {
     if text.len() > MOST_BYTES {

@@ -1,12 +1,12 @@
 // Rebuilding a tile, and listing it.
-ghost use Rattle.std.specs.Prelude.{◌≡◌, ◌≤◌, replicate};
+ghost use Rattle.std.specs.Prelude.{◌≡◌, ◌≤◌, length, replicate};
 ghost use Rattle.mojette.specs.Faults.{outcome};
 ghost use Rattle.mojette.specs.Meaning.{Lawful, shape_of, bins_of};
 ghost use Rattle.plan.specs.Shapes.{shape};
 ghost use Rattle.writing.specs.Splices.{filling};
 ghost use Rattle.answers.specs.Answers.{listed, tile_answer};
 ghost use Rattle.answers.specs.Law.{Shows};
-ghost use Rattle.answers.specs.Tiles.{most_pixels, most_bins, answered};
+ghost use Rattle.answers.specs.Tiles.{most_pixels, most_bins, most_output, answered};
 
 use mojette::{Fault, Refusal};
 use plan::Plan;
@@ -38,6 +38,7 @@ where
     requires picture { picture.old ≡ replicate most_pixels S.Sample.Kind.zero }
     requires sums { sums.old ≡ replicate most_bins S.Sample.Kind.zero }
     ensures text { (outcome result, out.new) ≡ filling (listed S.Sample.Kind S.Sample.Coded.own (S.meaning source.now) (answered S.Sample.Kind (S.meaning source.now))) out.old }
+    ensures fits { length (listed S.Sample.Kind S.Sample.Coded.own (S.meaning source.now) (answered S.Sample.Kind (S.meaning source.now))) ≤ most_output }
     ensures law { Shows S.Sample.Kind S.Sample.Coded.own (S.meaning source.now) (listed S.Sample.Kind S.Sample.Coded.own (S.meaning source.now) (answered S.Sample.Kind (S.meaning source.now))) }
 {
     let (mut marks, mut counts, mut queue) = ([0; MOST_PIXELS], [0; MOST_BINS], [0; MOST_BINS]);
@@ -72,6 +73,7 @@ where
     requires picture { picture.old ≡ replicate most_pixels S.Sample.Kind.zero }
     requires sums { sums.old ≡ replicate most_bins S.Sample.Kind.zero }
     ensures text { (outcome result, out.new) ≡ filling (tile_answer S.Sample.Kind S.Sample.Coded.own (S.meaning source.now)) out.old }
+    ensures fits { length (tile_answer S.Sample.Kind S.Sample.Coded.own (S.meaning source.now)) ≤ most_output }
     ensures law { Lawful (shape_of (S.meaning source.now)) → Shows S.Sample.Kind S.Sample.Coded.own (S.meaning source.now) (tile_answer S.Sample.Kind S.Sample.Coded.own (S.meaning source.now)) }
 {
     let plan = match plan_of(source) {

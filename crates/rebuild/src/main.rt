@@ -1,12 +1,8 @@
 // Reads a bracket file on standard input, rebuilds its tile, and prints the listing: of the picture, of a ghost, or of a refusal.
 #![tactic(auto)]
 
-use answers::answer::{MOST_BYTES, answer};
-use mojette::Refusal;
+use answers::answer::{MOST_BYTES, MOST_OUTPUT, answer};
 use std::io::{Read, Write};
-
-// Room for every answer: the longest is the ghost of a tile of 64 by 64 pairs.
-const MOST_OUTPUT: usize = 65_536;
 
 fn run(rt: &HostRuntime) -> anyhow::Result<()> {
     let mut text = Vec::new(rt.alloc());
@@ -15,13 +11,10 @@ fn run(rt: &HostRuntime) -> anyhow::Result<()> {
         .take(MOST_BYTES as u64 + 1)
         .read_to_end(&mut text)?;
     let mut out = [0; MOST_OUTPUT];
-    match answer(&text, &mut out) {
-        Ok(len) => rt.stdout().write_all(&out[..len])?,
-        Err(fault) => {
-            let refusal = Refusal::from(fault);
-            println!(rt; "({refusal})")?;
-        }
-    }
+    let Ok(len) = answer(&text, &mut out) else {
+        unreachable()
+    };
+    rt.stdout().write_all(&out[..len])?;
     Ok(())
 }
 

@@ -1,6 +1,7 @@
 -- The parts of a listing, and how long they are.
 use Rattle.std.proofs.Common.{◌≡◌, ℕ, suc, ◌+◌, ◌*◌, ◌≤◌, ltb, List, [], ◌∷◌, ◌++◌, length, codes as text, decimal, sym, ap, ◌∙◌, append_assoc, add-one, arith, length-append}
 use Rattle.std.proofs.lemmas.Bool.{cond-false, le-ltb}
+use Rattle.std.proofs.lemmas.Nat.{mul-le}
 use Rattle.samples.specs.declared.coded.Coded.{Ghosts as Codes}
 use Rattle.samples.specs.declared.kind.Kind.{Ghosts as Operations}
 use Rattle.samples.specs.Reading.{code}
@@ -8,7 +9,7 @@ use Rattle.mojette.specs.declared.direction.Record.{Record}
 use Rattle.format.specs.Listing.{lost_text, rows_text, tile_text}
 use Rattle.format.specs.Texts.{head_text, end_text}
 use Rattle.writing.specs.Lines.{spaced, line_text, row_text}
-use Rattle.writing.specs.Splices.{filling, listing}
+use Rattle.writing.specs.Splices.{filling, listing, most_listing}
 use Rattle.writing.proofs.OfLines.{spaced_two}
 use Rattle.writing.proofs.OfLost.{lost_on}
 use Rattle.writing.proofs.OfRows.{rows_on, length-rows}
@@ -70,3 +71,11 @@ module _ {S : Type 0} (K : Operations S) (C : Codes S) (word name : List ℕ) (P
   counted head lost digits a b d =
       let e : Q * (P * (digits + 1) + 6) ≡ Q * (P * suc C.width + 6) = ap (λ n. Q * (P * n + 6)) (ap (λ n. n + 1) d ∙ add-one C.width) in
       omega (arith, length-tile, length-rows K C P picture 0 Q)
+
+  -- how long it is at most
+  pub tile_fits :
+      length (head_text word name P Q []) ≤ 600 → length (lost_text 0 records []) ≤ 784 → P ≤ 64 → Q ≤ 64 → length (tile_text K C word P Q records picture) ≤ most_listing
+  tile_fits head lost p q =
+      let row : P * suc C.width ≤ 64 * 13 = mul-le P (suc C.width) 64 13 p (omega (arith, C.coding.few_digits)) in
+      let rows : Q * (P * suc C.width + 6) ≤ 64 * 838 = mul-le Q (P * suc C.width + 6) 64 838 q (omega (arith, row)) in
+      omega (arith, length-tile, length-rows K C P picture 0 Q, rows)

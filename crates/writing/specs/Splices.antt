@@ -18,3 +18,11 @@ filling text out =
 abbrev pub listing : {S : Type 0} → ℕ → ℕ → List S → List ℕ → List ℕ → Outcome ℕ × List ℕ
 listing P Q picture text out =
     cond (nat_lt (length picture) (P * Q)) (refuses (refusal 5 1 0 0), out) (filling text out)
+
+-- no listing of a tile has more bytes: 64 rows of 64 codes of 12 digits, with 1,390 bytes for the other lines
+abbrev pub most_listing : ℕ
+most_listing = 55022
+
+-- no listing of a refusal has more bytes: four numbers of 20 digits
+abbrev pub most_refusal : ℕ
+most_refusal = 94

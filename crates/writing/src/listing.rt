@@ -5,7 +5,7 @@ ghost use Rattle.mojette.specs.Bounds.{most_places};
 ghost use Rattle.plan.specs.Laid.{records_of};
 ghost use Rattle.plan.specs.Shapes.{shape};
 ghost use Rattle.format.specs.Listing.{tile_text, picture_text, ghost_text, refusal_text};
-ghost use Rattle.writing.specs.Splices.{filling, listing};
+ghost use Rattle.writing.specs.Splices.{filling, listing, most_listing, most_refusal};
 
 use crate::tile::{head_len, lost_len};
 use crate::writer::{Writer, line_len};
@@ -22,14 +22,15 @@ fn write_tile<K: Coded>(
     picture: &[K],
 ) -> Result<usize, Fault>
     requires short { (length word.now ≤ 255) × (length places.now ≤ most_places) }
-    ensures { (outcome result, out.new) ≡ listing size.columns size.rows picture.now (tile_text K.Kind K.Coded.own word.now size.columns size.rows (records_of places.now) picture.now) out.old }
+    ensures text { (outcome result, out.new) ≡ listing size.columns size.rows picture.now (tile_text K.Kind K.Coded.own word.now size.columns size.rows (records_of places.now) picture.now) out.old }
+    ensures fits { length (tile_text K.Kind K.Coded.own word.now size.columns size.rows (records_of places.now) picture.now) ≤ most_listing }
 {
-    if picture.len() < size.pixels() {
-        return Err(Fault::ShortTable(Table::Picture));
-    }
     let name = K::kind_name();
     let row = size.columns * (K::digits() + 1) + 6;
     let needed = head_len(word, name, size) + lost_len(places) + size.rows * row + 6;
+    if picture.len() < size.pixels() {
+        return Err(Fault::ShortTable(Table::Picture));
+    }
     if out.len() < needed {
         return Err(Fault::ShortOutput(needed));
     }
@@ -43,21 +44,24 @@ fn write_tile<K: Coded>(
 
 // The listing of a picture.
 pub fn write_picture<K: Coded>(out: &mut [u8], size: Size, picture: &[K]) -> Result<usize, Fault>
-    ensures { (outcome result, out.new) ≡ listing size.columns size.rows picture.now (picture_text K.Kind K.Coded.own (record { P = size.columns; Q = size.rows; records = [] }) picture.now) out.old }
+    ensures text { (outcome result, out.new) ≡ listing size.columns size.rows picture.now (picture_text K.Kind K.Coded.own (record { P = size.columns; Q = size.rows; records = [] }) picture.now) out.old }
+    ensures fits { length (picture_text K.Kind K.Coded.own (record { P = size.columns; Q = size.rows; records = [] }) picture.now) ≤ most_listing }
 {
     write_tile(out, b"picture", size, &[], picture)
 }
 
 // The listing of a ghost, with the lost places of its plan.
 pub fn write_ghost<K: Coded>(out: &mut [u8], plan: &Plan, picture: &[K]) -> Result<usize, Fault>
-    ensures { (outcome result, out.new) ≡ listing (shape plan.now).P (shape plan.now).Q picture.now (ghost_text K.Kind K.Coded.own (shape plan.now) picture.now) out.old }
+    ensures text { (outcome result, out.new) ≡ listing (shape plan.now).P (shape plan.now).Q picture.now (ghost_text K.Kind K.Coded.own (shape plan.now) picture.now) out.old }
+    ensures fits { length (ghost_text K.Kind K.Coded.own (shape plan.now) picture.now) ≤ most_listing }
 {
     write_tile(out, b"ghost", plan.size(), plan.places(), picture)
 }
 
 // The listing of a refusal. Into a lent table and with the needed length first, which `Display` does not give.
 pub fn write_refusal(out: &mut [u8], refusal: Refusal) -> Result<usize, Fault>
-    ensures { (outcome result, out.new) ≡ filling (refusal_text refusal) out.old }
+    ensures text { (outcome result, out.new) ≡ filling (refusal_text refusal) out.old }
+    ensures fits { length (refusal_text refusal) ≤ most_refusal }
 {
     let values = [refusal.number, refusal.first, refusal.second, refusal.third];
     let needed = line_len(b"refused", &values);

@@ -1,4 +1,4 @@
-use Rattle.std.proofs.Common.{ap, ◌∙◌}
+use Rattle.std.proofs.Common.{length, ap, ◌∙◌, arith}
 use Rattle.mojette.specs.Faults.{refusal_of}
 use Rattle.format.specs.Listing.{refusal_text}
 use Rattle.writing.specs.Splices.{filling}
@@ -11,8 +11,10 @@ returns-in-Ok g c =
     let K = g.K.Kind in
     let C = g.K.Coded in
     let t = c.args.text.now in
-    let m = file_meaning {K = K} c.in-Ok.file in record {
-      text = c.show.ensures.text ∙ ap (λ text. filling text c.args.out.now) (file_answer K C t m c.in-Ok.ensures.read);
+    let m = file_meaning {K = K} c.in-Ok.file in
+    let e = file_answer K C t m c.in-Ok.ensures.read in record {
+      text = c.show.ensures.text ∙ ap (λ text. filling text c.args.out.now) e;
+      fits = omega (arith, ap length e, c.show.ensures.fits);
       law = file_prints K C t m c.in-Ok.ensures.read c.show.ensures.law;
     }
 
@@ -21,7 +23,9 @@ returns-in-Err g c =
     let K = g.K.Kind in
     let C = g.K.Coded in
     let t = c.args.text.now in
-    let q = refusal_of c.in-Err.fault in record {
-      text = c.write_refusal.ensures ∙ ap (λ text. filling text c.args.out.now) (ap refusal_text c.from.ensures ∙ none_answer K C t q c.in-Err.ensures.read);
+    let q = refusal_of c.in-Err.fault in
+    let e = ap refusal_text c.from.ensures ∙ none_answer K C t q c.in-Err.ensures.read in record {
+      text = c.write_refusal.ensures.text ∙ ap (λ text. filling text c.args.out.now) e;
+      fits = omega (arith, ap length e, c.write_refusal.ensures.fits);
       law = none_prints K C t q c.in-Err.ensures.read;
     }

@@ -1,4 +1,4 @@
-use Rattle.std.proofs.Common.{ap, subst, ◌<◌, ◌≤◌, ◌∙◌, arith}
+use Rattle.std.proofs.Common.{ap, subst, length, ◌<◌, ◌≤◌, ◌∙◌, arith}
 use Rattle.mojette.specs.Meaning.{bins_of, shape_of}
 use Rattle.answers.specs.Tiles.{most_bins}
 use Rattle.answers.specs.Law.{Shows, too_large}
@@ -10,13 +10,13 @@ use Rattle.answers.proofs.show.show.Goals as goal
 
 pub returns-in-Err-clause-text : goal.returns-in-Err-clause-text
 returns-in-Err-clause-text g c =
-    c.write_refusal.ensures ∙ ap (λ text. filling text c.args.out.now) (ap refusal_text c.from.ensures
+    c.write_refusal.ensures.text ∙ ap (λ text. filling text c.args.out.now) (ap refusal_text c.from.ensures
     ∙ unlawful_answer g.S.Sample.Kind g.S.Sample.Coded (g.S.Source.meaning c.args.source.now) (refusal_of c.in-Err.fault) c.in-Err.ensures)
 
 pub returns-then-total-gt-MOST_BINS-clause-text : goal.returns-then-total-gt-MOST_BINS-clause-text
 returns-then-total-gt-MOST_BINS-clause-text g c =
     let e = ap bins_of c.in-Ok.ensures.1 in
-    c.write_refusal-then-total-gt-MOST_BINS.ensures ∙ ap (λ text. filling text c.args.out.now) (ap refusal_text c.from-then-total-gt-MOST_BINS.ensures
+    c.write_refusal-then-total-gt-MOST_BINS.ensures.text ∙ ap (λ text. filling text c.args.out.now) (ap refusal_text c.from-then-total-gt-MOST_BINS.ensures
     ∙ oversize_answer g.S.Sample.Kind g.S.Sample.Coded (g.S.Source.meaning c.args.source.now) c.in-Ok.ensures.0
     (omega (arith, c.if-total-gt-MOST_BINS.true, c.total.ensures.value, e)))
 
@@ -44,3 +44,25 @@ returns-clause-law g c = λ lawful.
     let e = ap bins_of c.in-Ok.ensures.1 in
     let l : bins_of (shape_of m) ≤ most_bins = omega (arith, c.if-total-gt-MOST_BINS.false, c.total.ensures.value, e) in
     subst (Shows K C m) (tile_listed K C m lawful l) c.list_tile.ensures.law
+
+pub returns-in-Err-clause-fits : goal.returns-in-Err-clause-fits
+returns-in-Err-clause-fits g c =
+    let m = g.S.Source.meaning c.args.source.now in
+    let e = ap refusal_text c.from.ensures ∙ unlawful_answer g.S.Sample.Kind g.S.Sample.Coded m (refusal_of c.in-Err.fault) c.in-Err.ensures in
+    omega (arith, ap length e, c.write_refusal.ensures.fits)
+
+pub returns-then-total-gt-MOST_BINS-clause-fits : goal.returns-then-total-gt-MOST_BINS-clause-fits
+returns-then-total-gt-MOST_BINS-clause-fits g c =
+    let m = g.S.Source.meaning c.args.source.now in
+    let e = ap bins_of c.in-Ok.ensures.1 in
+    let l : most_bins < bins_of (shape_of m) = omega (arith, c.if-total-gt-MOST_BINS.true, c.total.ensures.value, e) in
+    let same = ap refusal_text c.from-then-total-gt-MOST_BINS.ensures ∙ oversize_answer g.S.Sample.Kind g.S.Sample.Coded m c.in-Ok.ensures.0 l in
+    omega (arith, ap length same, c.write_refusal-then-total-gt-MOST_BINS.ensures.fits)
+
+pub returns-clause-fits : goal.returns-clause-fits
+returns-clause-fits g c =
+    let m = g.S.Source.meaning c.args.source.now in
+    let e = ap bins_of c.in-Ok.ensures.1 in
+    let l : bins_of (shape_of m) ≤ most_bins = omega (arith, c.if-total-gt-MOST_BINS.false, c.total.ensures.value, e) in
+    let same = tile_listed g.S.Sample.Kind g.S.Sample.Coded m c.in-Ok.ensures.0 l in
+    omega (arith, ap length same, c.list_tile.ensures.fits)
