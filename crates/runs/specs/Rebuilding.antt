@@ -12,6 +12,7 @@ use Rattle.law.specs.Law.{shown}
 use Rattle.law.specs.Life.{LongEnough}
 use Rattle.law.specs.Steps.{loading, peeling, finished, Tables, refused, short, criterion, C, R, finish}
 use Rattle.tile.specs.declared.states.Finished.{Finished}
+use Rattle.tile.specs.States.{cells_in}
 use Rattle.runs.specs.Runs.{Lived}
 
 -- an answer: served with a picture of so many cells, or refused
@@ -20,7 +21,7 @@ pub data Answer : Type 0 where
   refuses : Refusal → Answer
 
 abbrev pub answer : Result Finished Fault → Answer
-answer (Ok x) = served x.cells
+answer (Ok x) = served (cells_in x)
 answer (Err e) = refuses (refusal_of e)
 
 module _ {S : Type 0} (K : Operations S) (m : Meaning S) where

@@ -6,6 +6,7 @@ ghost use Rattle.law.specs.Law.{Law};
 ghost use Rattle.runs.specs.Rebuilding.{answer, Rebuilds, ServesExactly, Fills};
 ghost use Rattle.runs.specs.Worker.{one_worker};
 ghost use Rattle.tile.specs.Outcomes.{tables};
+ghost use Rattle.tile.specs.States.{loaded_in};
 ghost use Rattle.tile.specs.Worlds.{StillLent, held};
 
 use crate::steps::load_all;
@@ -23,7 +24,7 @@ fn run<S: Source>(
 ) -> Result<Finished, Fault>
     requires lawful { Lawful (shape_of (S.meaning source.now)) }
     requires own { shape plan.now ≡ shape_of (S.meaning source.now) }
-    requires opened { tile.loaded ≡ 0 }
+    requires opened { loaded_in tile ≡ 0 }
     ensures lent { StillLent tables.old tables.new }
     ensures run { Rebuilds S.Sample.Kind (S.meaning source.now) (held tables.old) (answer result) (held tables.new) }
     ensures by_steps { (answer result, held tables.new) ≡ one_worker S.Sample.Kind (S.meaning source.now) (held tables.old) }

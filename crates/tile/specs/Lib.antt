@@ -4,3 +4,4 @@ pub mod Loads
 pub mod Seals
 pub mod Worlds
 pub mod Lives
+pub mod States

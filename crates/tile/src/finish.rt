@@ -6,6 +6,7 @@ ghost use Rattle.plan.specs.Shapes.{shape};
 ghost use Rattle.walk.specs.Finding.{Stands};
 ghost use Rattle.tile.specs.Calls.{Finishes};
 ghost use Rattle.tile.specs.Outcomes.{picture_outcome, pictured};
+ghost use Rattle.tile.specs.States.{cells_in};
 
 use crate::states::{Finished, Peeling, Refused};
 use mojette::{Fault, Table};
@@ -39,7 +40,7 @@ impl Peeling {
     #[tactic(auto, using(std::proofs::lemmas::Bool::Decides::nat_tests), unfolding(law::specs::Steps::finish, law::specs::Steps::short_sums, peeling::specs::Steps::finish_answers))]
     pub fn finish<K: Kind>(self, plan: &Plan, sums: &[K]) -> Result<Finished, Refused<Peeling>>
         ensures step { Finishes K.Kind plan.now self sums.now result }
-        ensures cells { IfOk result (λ f. f.cells ≡ pixels_of (shape plan.now)) }
+        ensures cells { IfOk result (λ f. cells_in f ≡ pixels_of (shape plan.now)) }
     {
         if sums.len() < plan.total() {
             return Err(Refused {
@@ -76,7 +77,7 @@ impl Peeling {
 impl Finished {
     // The tile's own cells of the picture, as a part of the caller's table, which is only read.
     pub fn picture<'a, K: Kind>(&self, cells: &'a [K]) -> Result<&'a [K], Fault>
-        ensures { picture_outcome result ≡ pictured self.now.cells cells.now }
+        ensures { picture_outcome result ≡ pictured (cells_in self.now) cells.now }
     {
         cells
             .get(..self.cells)
