@@ -1,6 +1,5 @@
 pub mod Counted
-pub mod Twins
-pub mod Turns
-pub mod Beyond
 pub mod Most
 pub mod Tables
+pub mod Telling
+pub mod Found

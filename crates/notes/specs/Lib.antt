@@ -1,5 +1,5 @@
+pub mod Missing
 pub mod Words
 pub mod Notes
-pub mod Offs
-pub mod Twins
 pub mod Noting
+pub mod Telling

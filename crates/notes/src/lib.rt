@@ -5,8 +5,14 @@ pub mod cells;
 pub mod impls;
 pub mod note;
 pub mod noting;
+pub mod table;
+pub mod tallies;
+pub mod tally;
 #[cfg(test)]
 mod tests;
 
 pub use note::Note;
 pub use noting::{MOST_BINS, note_bins};
+pub use table::Notes;
+pub use tallies::Counts;
+pub use tally::Tally;

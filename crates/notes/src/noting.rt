@@ -4,6 +4,7 @@ ghost use Rattle.mojette.specs.Bounds.{most_step};
 ghost use Rattle.mojette.specs.Bins.{bins};
 ghost use Rattle.mojette.specs.Directions.{lawful};
 ghost use Rattle.mojette.specs.Meaning.{bins_of};
+ghost use Rattle.notes.specs.Missing.{all_missing};
 ghost use Rattle.notes.specs.Notes.{Noted};
 ghost use Rattle.notes.specs.Noting.{Numbered, note_of_place};
 ghost use Rattle.notes.specs.Words.{note_zero};
@@ -64,7 +65,7 @@ fn note_place(size: Size, place: Place, tile: &[Note], notes: &mut [Note])
 fn note_places(plan: &Plan, tile: &[Note], notes: &mut [Note])
     requires tile { Numbered tile.now }
     requires room { bins_of (shape plan.now) ≤ length notes.old }
-    ensures { Noted (shape plan.now) notes.new }
+    ensures { Noted (shape plan.now) (all_missing (shape plan.now)) notes.new }
 {
     let size = plan.size();
     for place in plan.places() {
@@ -79,7 +80,7 @@ fn note_places(plan: &Plan, tile: &[Note], notes: &mut [Note])
 
 // Sets each note to that of all the pixels of its bin, zero in lost places.
 pub fn note_bins(plan: &Plan, notes: &mut [Note; MOST_BINS])
-    ensures { Noted (shape plan.now) notes.new }
+    ensures { Noted (shape plan.now) (all_missing (shape plan.now)) notes.new }
 {
     note_places(plan, &numbered(), notes);
 }

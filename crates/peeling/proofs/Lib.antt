@@ -13,6 +13,3 @@ pub mod Taking
 pub mod Settling
 pub mod Outcome
 pub mod Bridges
-pub mod Beside
-pub mod Rests
-pub mod Alone

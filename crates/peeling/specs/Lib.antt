@@ -3,4 +3,3 @@ pub mod Incidence
 pub mod Steps
 pub mod History
 pub mod Law
-pub mod Beside

@@ -1,90 +1,28 @@
--- One turn of the loop that takes a pixel and its note off its bins, place after place.
-use Rattle.std.proofs.Common.{◌≡◌, ℕ, suc, ◌+◌, ◌-◌, ◌<◌, ◌≤◌, ◌==◌, false, List, length, get_or, refl, sym, ap, ◌∙◌, subst, subst₂, arith}
+-- What code that is lent the tables passes on.
+use Rattle.std.proofs.Common.{◌≡◌, ℕ, ◌+◌, ◌-◌, ◌*◌, ◌<◌, ◌≤◌, Bool, true, false, cond, ◌&&◌, ◌⊎◌, eqb, ltb, leb, List, length, get_or, Some, None, Option, Ok, Err, inl, inr, refl, sym, ap, ◌∙◌, subst, ⊎_elim, arith}
+use Rattle.std.proofs.lemmas.Bool.{and_parts, eqb-true, le-ltb}
 use Rattle.samples.specs.declared.kind.Kind.{Ghosts as Operations}
-use Rattle.mojette.specs.Meaning.{pixels_of, bins_of}
+use Rattle.mojette.specs.declared.fault.Fault.{Fault}
+use Rattle.mojette.specs.declared.fault.Fault.TheVariants.{NoneWaits, BadCell}
+use Rattle.mojette.specs.Meaning.{Shape, pixels_of, bins_of}
+use Rattle.katz.proofs.Pixels.{cell_below}
 use Rattle.peeling.specs.declared.state.State.{State}
-use Rattle.peeling.specs.History.{History}
-use Rattle.peeling.specs.Law.{Run}
-use Rattle.peeling.specs.Steps.{World, taken, spent, front, take_off_all, peeled, take}
+use Rattle.peeling.specs.Counting.{number, least}
+use Rattle.peeling.specs.Steps.{World, with_state, Taken, none_waits, bad_cell, take_answers, taken, spent, peeled}
+use Rattle.peeling.proofs.Counts.{least_some, least_passes}
 use Rattle.plan.specs.declared.plan.Plan.{Plan}
-use Rattle.plan.specs.Laid.{place_at}
-use Rattle.plan.specs.Shapes.{shape, places_of}
+use Rattle.plan.specs.Shapes.{shape}
 use Rattle.law.specs.Life.{LongEnough}
 use Rattle.law.specs.Positions.{incidence}
-use Rattle.law.specs.Steps.{Tables, world_of, tables_of}
+use Rattle.law.specs.Steps.{tables_of, short_queue, take}
 use Rattle.law.specs.Turns.{turn, turns}
-use Rattle.law.proofs.Turning.{at_rest}
-use Rattle.walk.specs.Lying.{starts, Lies}
-use Rattle.notes.specs.declared.note.Note.{Note}
-use Rattle.notes.specs.Notes.{notes, note_of_bin, pixels_noted, cell_noted}
-use Rattle.notes.specs.Words.{note_zero}
-use Rattle.notes.specs.Offs.{noted_off}
-use Rattle.notes.specs.Twins.{Follows, Telling, Twins, GoesOn}
-use Rattle.notes.proofs.Beyond.{beyond_then}
-use Rattle.notes.proofs.Most.{few_pixels, few_counted}
-use Rattle.notes.proofs.Turns.{inside, both_rest, run_taken, taken_follows, turned_follows, turned_twins, turned_beyond, follows_long}
-use Rattle.notes.proofs.Twins.{off_follows, tells_ahead, cell_inside}
+use Rattle.law.proofs.Turning.{turn_is, turn_none, at_rest}
+use Rattle.walk.specs.declared.pixel.Pixel.{Pixel}
+use Rattle.walk.specs.Finding.{OfTile, pixel_in, alone, missing_at, lone}
+use Rattle.notes.specs.declared.tally.Tally.{Ghosts as Telling}
 use Rattle.tile.specs.declared.lent.Tables.{Tables as Lent}
-use Rattle.tile.specs.Worlds.{StillLent, held}
-use Rattle.tile.proofs.Turns.{whole_turn, lost_turn}
-
-module _ {S : Type 0} (K : Operations S) (plan : Plan) (c : ℕ) (v : S) (u : Note) (i : ℕ) (l : i < length (places_of plan))
-    (w : World S) (t : World Note) (r r' : World S × List Note)
-    (f : Follows r (take_off_all K (incidence (shape plan)) c v (starts plan i) w) (take_off_all notes (incidence (shape plan)) c u (starts plan i) t)) where
-  abbrev Next : Type 0
-  Next = Follows r' (take_off_all K (incidence (shape plan)) c v (starts plan (i + 1)) w) (take_off_all notes (incidence (shape plan)) c u (starts plan (i + 1)) t)
-
-  pub whole_follows : Telling (shape plan) t u c → (at : ℕ) → Lies plan i c at → at < bins_of (shape plan) → (place_at (places_of plan) i).cause ≡ 0 →
-      r' ≡ noted_off K (bins_of (shape plan)) v u at r →
-      Follows r' (take_off_all K (incidence (shape plan)) c v (starts plan (i + 1)) w) (take_off_all notes (incidence (shape plan)) c u (starts plan (i + 1)) t)
-  whole_follows tells at lies inside e is =
-      subst (λ x. Follows x (take_off_all K (incidence (shape plan)) c v (starts plan (i + 1)) w) (take_off_all notes (incidence (shape plan)) c u (starts plan (i + 1)) t)) (sym is)
-      (subst₂ (Follows (noted_off K (bins_of (shape plan)) v u at r))
-      (whole_turn K plan c v w i l _ _ refl at lies e _ refl refl)
-      (whole_turn notes plan c u t i l _ _ refl at lies e _ refl refl)
-      (off_follows K (shape plan) v u at r _ _ f
-      (tells_ahead K (shape plan) t u c tells (starts plan i) at lies.from inside (lies.there e))))
-
-  pub lost_follows : ((place_at (places_of plan) i).cause == 0) ≡ false → r' ≡ r →
-      Follows r' (take_off_all K (incidence (shape plan)) c v (starts plan (i + 1)) w) (take_off_all notes (incidence (shape plan)) c u (starts plan (i + 1)) t)
-  lost_follows lost is =
-      subst (λ x. Follows x (take_off_all K (incidence (shape plan)) c v (starts plan (i + 1)) w) (take_off_all notes (incidence (shape plan)) c u (starts plan (i + 1)) t)) (sym is)
-      (subst₂ (Follows r) (lost_turn K plan c v w i l _ _ refl lost refl) (lost_turn notes plan c u t i l _ _ refl lost refl) f)
-
--- One turn, from the state x and the tables y with the notes n, which follow w beside t.
-module _ {S : Type 0} (K : Operations S) (plan : Plan) (x : State) (y : Tables S) (n : List Note) (w : World S) (t : World Note)
-    (f : Follows (world_of x y, n) w t) (twins : Twins (shape plan) w t) (long : LongEnough (shape plan) y) (some : 1 ≤ x.waiting) where
-  long_w : LongEnough (shape plan) (tables_of w)
-  long_w = follows_long (shape plan) (few_counted plan) (world_of x y, n) w t f twins long
-
-  some_w : 0 < w.state.waiting
-  some_w = subst (λ z. 0 < z.state.waiting) f.world some
-
-  module _ (at : ℕ) (at_is : at ≡ front (bins_of (shape plan)) x y.queue) where
-    front_is : front (bins_of (shape plan)) w.state w.queue ≡ at
-    front_is = sym (at_is ∙ ap (λ z. front (bins_of (shape plan)) z.state z.queue) f.world)
-
-    pub at_inside : at < bins_of (shape plan)
-    at_inside = subst (λ k. k < bins_of (shape plan)) front_is (inside K (shape plan) (few_counted plan) w t twins long_w some_w)
-
-    module _ (x' : State) (x_is : x' ≡ taken (bins_of (shape plan)) x) where
-      at_taken : Follows (world_of x' y, n) (take K (incidence (shape plan)) w) (take notes (incidence (shape plan)) t)
-      at_taken = subst (λ z. Follows (world_of z y, n) (take K (incidence (shape plan)) w) (take notes (incidence (shape plan)) t)) (sym x_is)
-          (taken_follows K (shape plan) (few_counted plan) w t twins long_w some_w (world_of x y, n) f)
-
-      pub cell_known : pixels_noted (get_or n at note_zero) ≡ 1 → cell_noted (get_or n at note_zero) < pixels_of (shape plan)
-      cell_known = cell_inside K (shape plan) (few_pixels plan) (few_counted plan) _ _ (run_taken K (shape plan) (few_counted plan) w t twins long_w some_w)
-          (world_of x' y, n) _ at_taken at at_inside
-
-      pub turn_follows : (z z' : State) (y' : Tables S) (n' : List Note) → z' ≡ spent z →
-          ((h : History) (v : World S) (u : World Note) → Follows (world_of x' y, n) v u → Run notes (incidence (shape plan)) (note_of_bin (shape plan)) h u →
-          Follows (world_of z y', n') (peeled K (incidence (shape plan)) at v) (peeled notes (incidence (shape plan)) at u)) →
-          Follows (world_of z' y', n') (turn K (shape plan) w) (turn notes (shape plan) t)
-      turn_follows z z' y' n' z_is peels =
-          subst (λ q. Follows (world_of q y', n') (turn K (shape plan) w) (turn notes (shape plan) t)) (sym z_is)
-          (turned_follows K (shape plan) (few_counted plan) w t twins long_w some_w (world_of z y', n')
-          (subst (λ k. Follows (world_of z y', n') (peeled K (incidence (shape plan)) k (take K (incidence (shape plan)) w)) (peeled notes (incidence (shape plan)) k (take notes (incidence (shape plan)) t)))
-          (sym front_is) (peels _ _ _ at_taken (run_taken K (shape plan) (few_counted plan) w t twins long_w some_w))))
+use Rattle.tile.specs.Turns.{Fronts}
+use Rattle.tile.specs.Worlds.{StillLent, held, told}
 
 -- What is lent stays long enough.
 pub long_on : {S : Type 0} (plan : Plan) (a b : Lent S) → StillLent a b → LongEnough (shape plan) (held a) → LongEnough (shape plan) (held b)
@@ -96,31 +34,70 @@ long_on plan a b lent long = record {
   queue = omega (arith, lent.queue_size, long.queue);
 }
 
--- After n turns, and one more.
-module _ {S : Type 0} (K : Operations S) (plan : Plan) (w : World S) (t : World Note) (n : ℕ) (x : State) (y : Tables S) (ns : List Note)
-    (so_far : GoesOn (shape plan) w (world_of x y, ns) (turns K (shape plan) n w) (turns notes (shape plan) n t)) (long : LongEnough (shape plan) y) where
-  long_then : LongEnough (shape plan) (tables_of (turns K (shape plan) n w))
-  long_then = follows_long (shape plan) (few_counted plan) (world_of x y, ns) _ _ so_far.follows so_far.twins long
+-- the cell of a pixel of the tile
+pub cell_inside : (plan : Plan) (x : Pixel) → OfTile (shape plan).P (shape plan).Q x → x.cell < pixels_of (shape plan)
+cell_inside plan x of = subst (λ n. n < pixels_of (shape plan)) (sym of.cell) (cell_below (shape plan).P (shape plan).Q x.column x.row of.column of.row)
 
-  pub turned_on : 1 ≤ x.waiting → (r : World S × List Note) →
-      Follows r (turn K (shape plan) (turns K (shape plan) n w)) (turn notes (shape plan) (turns notes (shape plan) n t)) →
-      GoesOn (shape plan) w r (turns K (shape plan) (n + 1) w) (turns notes (shape plan) (n + 1) t)
-  turned_on some r f =
-      let one : suc n ≡ n + 1 = omega arith in
-      let some_then : 0 < (turns K (shape plan) n w).state.waiting = subst (λ z. 0 < z.state.waiting) so_far.follows.world some in
-      subst (λ k. GoesOn (shape plan) w r (turns K (shape plan) k w) (turns notes (shape plan) k t)) one (record {
-        follows = f;
-        twins = turned_twins K (shape plan) (few_counted plan) _ _ so_far.twins long_then some_then;
-        beyond = beyond_then _ _ _ _ so_far.beyond (turned_beyond K (shape plan) (few_counted plan) _ _ so_far.twins long_then some_then);
-      })
+-- So are the tables with the counts that a tally stands for.
+pub told_long : {S X : Type 0} (T : Telling X) (plan : Plan) (x : X) (t : Lent S) → LongEnough (shape plan) (held t) → LongEnough (shape plan) (told T (shape plan) x t)
+told_long T plan x t long = record {
+  picture = long.picture;
+  marks = long.marks;
+  sums = long.sums;
+  counts = subst (λ n. bins_of (shape plan) ≤ n) (sym (T.as_long (shape plan) x t.counts.now)) long.counts;
+  queue = long.queue;
+}
 
-  pub rests : x.waiting ≡ 0 → n ≤ bins_of (shape plan) →
-      GoesOn (shape plan) w (world_of x y, ns) (turns K (shape plan) (bins_of (shape plan)) w) (turns notes (shape plan) (bins_of (shape plan)) t)
-  rests none few =
-      let none_then : (turns K (shape plan) n w).state.waiting ≡ 0 = ap (λ z. z.state.waiting) (sym so_far.follows.world) ∙ none in
-      let still = both_rest K (shape plan) (few_counted plan) _ _ so_far.twins long_then none_then in
-      let all : (bins_of (shape plan) - n) + n ≡ bins_of (shape plan) = omega arith in
-      subst₂ (GoesOn (shape plan) w (world_of x y, ns))
-      (sym (ap (λ k. turns K (shape plan) k w) (sym all) ∙ at_rest K (shape plan) w n (bins_of (shape plan) - n) still.0))
-      (sym (ap (λ k. turns notes (shape plan) k t) (sym all) ∙ at_rest notes (shape plan) t n (bins_of (shape plan) - n) still.1))
-      so_far
+-- the mark of a lone pixel says that it is missing
+cell_or : Option Pixel → ℕ
+cell_or (Some x) = x.cell
+cell_or None = 0
+
+pub lone_missing : (s : Shape) (marks : List ℕ) (at : ℕ) (x : Pixel) → Some x ≡ lone s marks at → eqb (get_or marks x.cell 0) 0 ≡ true
+unfolding cell_or
+lone_missing s marks at x e = go (ltb at (bins_of s) && leb (pixels_of s) (length marks)) e
+  where
+    of_one : (b : Bool) → eqb (number (pixels_of s) (missing_at s marks at)) 1 ≡ b → Some x ≡ cond b (Some (pixel_in s.P (least (pixels_of s) (missing_at s marks at)))) None →
+        eqb (get_or marks x.cell 0) 0 ≡ true
+    of_one true one is =
+        let here = least_some (pixels_of s) (missing_at s marks at) (omega (arith, eqb-true _ 1 one)) in
+        ap (λ n. eqb (get_or marks n 0) 0) (ap cell_or is) ∙ (and_parts _ _ (least_passes (pixels_of s) (missing_at s marks at) here)).1
+    of_one false one is = absurd cc
+
+    go : (b : Bool) → Some x ≡ cond b (alone s.P s.Q (missing_at s marks at)) None → eqb (get_or marks x.cell 0) 0 ≡ true
+    go true is = of_one (eqb (number (pixels_of s) (missing_at s marks at)) 1) refl is
+    go false is = absurd cc
+
+-- A turn ----------------------------------------------------------------------------------------------------------
+
+-- why no position is taken
+refuses : (a : Taken) (bins : ℕ) (e : Fault) → Fronts a bins (Err e) → (a ≡ none_waits) ⊎ ((i : ℕ) × (a ≡ bad_cell i))
+refuses a bins NoneWaits h = inl h
+refuses a bins (BadCell i) h = inr (i, h)
+refuses a bins _ h = absurd h
+
+module _ {S : Type 0} (K : Operations S) (s : Shape) (w : World S) (long : LongEnough s (tables_of w)) where
+  turn_bad : (i : ℕ) → take_answers (bins_of s) w.state w.queue ≡ bad_cell i → turn K s w ≡ w
+  unfolding turn take short_queue
+  turn_bad i e =
+      let fits : ltb (length w.queue) (bins_of s) ≡ false = le-ltb _ _ long.queue in
+      rw (fits, e) refl
+
+  -- where none can be taken, it changes nothing
+  pub turn_rests : (e : Fault) → Fronts (take_answers (bins_of s) w.state w.queue) (bins_of s) (Err e) → turn K s w ≡ w
+  turn_rests e h = ⊎_elim (λ none. turn_none K s w long none) (λ bad. turn_bad bad.0 bad.1) (refuses (take_answers (bins_of s) w.state w.queue) (bins_of s) e h)
+
+  -- else the position is taken, and settled
+  pub turn_goes : (b : ℕ) → Fronts (take_answers (bins_of s) w.state w.queue) (bins_of s) (Ok b) → (x z : State) → x ≡ taken (bins_of s) w.state →
+      (v : World S) → v ≡ peeled K (incidence s) b (with_state x w) → z ≡ spent v.state → with_state z v ≡ turn K s w
+  turn_goes b h x z x_is v v_is z_is =
+      ap (λ q. with_state q v) z_is
+      ∙ ap (λ u. with_state (spent u.state) u) (v_is ∙ ap (λ q. peeled K (incidence s) b (with_state q w)) x_is)
+      ∙ sym (turn_is K s w long b h.0 h.1)
+
+-- The turn after n others that changes nothing is the last that is made.
+pub stops : {S : Type 0} (K : Operations S) (s : Shape) (n k : ℕ) (w u v : World S) → u ≡ turns K s n w → v ≡ turn K s u → v ≡ u → n ≤ k → v ≡ turns K s k w
+stops K s n k w u v u_is v_is same few =
+    let still : turn K s (turns K s n w) ≡ turns K s n w = ap (turn K s) (sym u_is) ∙ sym v_is ∙ same ∙ u_is in
+    let all : (k - n) + n ≡ k = omega arith in
+    same ∙ u_is ∙ sym (at_rest K s w n (k - n) still) ∙ ap (λ m. turns K s m w) all

@@ -1,6 +1,7 @@
 pub mod Checks
 pub mod Constants
 pub mod Filling
+pub mod Following
 pub mod Keeping
 pub mod Leftovers
 pub mod Living
@@ -9,5 +10,3 @@ pub mod Rings
 pub mod Sealing
 pub mod Showing
 pub mod Turns
-pub mod Following
-pub mod Beginning

@@ -1,13 +1,13 @@
 -- Setting up the peeling.
-use Rattle.std.proofs.Common.{◌≡◌, ℕ, zero, suc, ◌≤◌, Bool, true, false, cond, eqb, List, length, get_or, refl, ap, ◌∙◌}
-use Rattle.std.proofs.lemmas.Bool.{cond-false, le-ltb}
+use Rattle.std.proofs.Common.{◌≡◌, ℕ, zero, suc, Bool, true, false, cond, eqb, List, get_or, refl, ap, ◌∙◌}
+use Rattle.samples.specs.declared.kind.Kind.{Ghosts as Operations}
 use Rattle.mojette.specs.Meaning.{Shape, pixels_of, bins_of}
 use Rattle.peeling.specs.declared.state.State.{State}
-use Rattle.peeling.specs.Counting.{number}
-use Rattle.peeling.specs.Steps.{World, world, filled, append, queue_singles}
+use Rattle.peeling.specs.Steps.{World, world, filled, append, queue_singles, zeroed, seal}
 use Rattle.law.specs.Positions.{incidence}
-use Rattle.walk.specs.Counts.{counts_after}
-use Rattle.tile.specs.Seals.{with_position, singles_queued}
+use Rattle.law.specs.Steps.{Tables, world_of, blank}
+use Rattle.walk.specs.Counts.{counted}
+use Rattle.tile.specs.Seals.{unpeeled, with_position, singles_queued}
 
 -- queueing looks at the counts alone
 module _ {S : Type 0} (T : ℕ) (p : List S) (m : List ℕ) (sums : List S) (counts : List ℕ) (s : State) (queue : List ℕ) where
@@ -26,7 +26,12 @@ module _ {S : Type 0} (T : ℕ) (p : List S) (m : List ℕ) (sums : List S) (cou
       by true = refl
       by false = refl
 
--- the counts of a tile
-pub counted_is : (shape : Shape) (counts : List ℕ) → bins_of shape ≤ length counts →
-    counts_after shape counts ≡ filled (bins_of shape) (λ b. number (pixels_of shape) (λ c. (incidence shape).lies c b)) counts
-counted_is shape counts long = cond-false _ _ _ (le-ltb _ _ long)
+-- What is set up is an accepted seal.
+pub begun : {S : Type 0} (K : Operations S) (s : Shape) (y : Tables S) (x : State) (queue : List ℕ) (picture : List S) (marks counts : List ℕ) →
+    (x, queue) ≡ singles_queued (bins_of s) (bins_of s) counts (unpeeled s, y.queue) → picture ≡ filled (pixels_of s) (λ _. K.zero) y.picture →
+    marks ≡ filled (pixels_of s) (λ _. 0) y.marks → counts ≡ counted s y.counts → world x picture marks y.sums counts queue ≡ seal K (incidence s) (world_of blank y)
+unfolding seal zeroed
+begun K s y x queue picture marks counts q p m n =
+    (λ j. world (q j).0 (p j) (m j) y.sums counts (q j).1)
+    ∙ queues (bins_of s) (filled (pixels_of s) (λ _. K.zero) y.picture) (filled (pixels_of s) (λ _. 0) y.marks) y.sums counts (unpeeled s) y.queue (bins_of s)
+    ∙ ap (λ z. queue_singles (bins_of s) (bins_of s) (world (unpeeled s) (filled (pixels_of s) (λ _. K.zero) y.picture) (filled (pixels_of s) (λ _. 0) y.marks) y.sums z y.queue)) n

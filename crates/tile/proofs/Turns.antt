@@ -1,5 +1,5 @@
 -- One turn of the loop that takes v off the bins of a pixel, place after place.
-use Rattle.std.proofs.Common.{◌≡◌, ℕ, ◌+◌, ◌-◌, ◌<◌, ◌==◌, true, false, ◌&&◌, List, length, sym, ap, ◌∙◌, subst, subst₂, arith}
+use Rattle.std.proofs.Common.{◌≡◌, ℕ, ◌+◌, ◌-◌, ◌<◌, ◌≤◌, ◌==◌, true, false, ◌&&◌, List, length, sym, ap, ◌∙◌, subst, subst₂, arith}
 use Rattle.samples.specs.declared.kind.Kind.{Ghosts as Operations}
 use Rattle.mojette.specs.Bins.{in_bin}
 use Rattle.mojette.specs.Meaning.{bins_of}
@@ -15,6 +15,17 @@ use Rattle.walk.specs.Finding.{OfTile}
 use Rattle.walk.specs.Lying.{starts, Lies, LiesWherever}
 use Rattle.walk.proofs.Laying.{start_is, next_is, lies_is, Turn}
 
+module _ (plan : Plan) (i : ℕ) (l : i < length (places_of plan)) where
+  pub next_start : starts plan (i + 1) ≡ starts plan i + (place_at (places_of plan) i).bins
+  next_start = next_is plan i l ∙ ap (λ n. n + (place_at (places_of plan) i).bins) (start_is plan i l)
+
+  -- no pixel lies in a lost place
+  pub none_lies : ((place_at (places_of plan) i).cause == 0) ≡ false → (c b : ℕ) → starts plan i ≤ b → b < starts plan (i + 1) → (incidence (shape plan)).lies c b ≡ false
+  none_lies lost c b low high =
+      let here : (place_at (places_of plan) i).start + (b - starts plan i) ≡ b = omega (arith, start_is plan i l) in
+      ap ((incidence (shape plan)).lies c) (sym here) ∙ lies_is plan i l (b - starts plan i) (omega (arith, next_start)) c
+      ∙ ap (λ t. t && in_bin plan.size.columns plan.size.rows (direction_of (place_at (places_of plan) i)) c (b - starts plan i)) lost
+
 module _ {S : Type 0} (K : Operations S) (plan : Plan) (c : ℕ) (v : S) (w : World S) (i : ℕ) (l : i < length (places_of plan)) where
   -- v is taken off the bins below n
   abbrev off : ℕ → World S
@@ -26,7 +37,7 @@ module _ {S : Type 0} (K : Operations S) (plan : Plan) (c : ℕ) (v : S) (w : Wo
 
   next : starts plan (i + 1) ≡ starts plan i + size
   unfolding size
-  next = next_is plan i l ∙ ap (λ n. n + (place_at (places_of plan) i).bins) (start_is plan i l)
+  next = next_start plan i l
 
   -- a whole place: v is taken off the pixel's bin there
   off_whole : (at : ℕ) → Lies plan i c at → (place_at (places_of plan) i).cause ≡ 0 →
@@ -42,11 +53,7 @@ module _ {S : Type 0} (K : Operations S) (plan : Plan) (c : ℕ) (v : S) (w : Wo
   off_lost : ((place_at (places_of plan) i).cause == 0) ≡ false → off (starts plan i) ≡ off (starts plan (i + 1))
   unfolding size
   off_lost lost =
-      sym (ap off next ∙ none_off K (incidence (shape plan)) c v w (starts plan i) size
-      (λ b low high.
-      let here : (place_at (places_of plan) i).start + (b - starts plan i) ≡ b = omega (arith, start_is plan i l) in
-      ap ((incidence (shape plan)).lies c) (sym here) ∙ lies_is plan i l (b - starts plan i) (omega arith) c
-      ∙ ap (λ t. t && in_bin plan.size.columns plan.size.rows (direction_of (place_at (places_of plan) i)) c (b - starts plan i)) lost))
+      sym (ap off next ∙ none_off K (incidence (shape plan)) c v w (starts plan i) size (λ b low high. none_lies plan i l lost c b low (omega (arith, next))))
 
   -- from the world u before the turn to the world after it
   module _ (u after : World S) (so_far : u ≡ off (starts plan i)) where

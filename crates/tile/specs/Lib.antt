@@ -5,3 +5,4 @@ pub mod Seals
 pub mod Worlds
 pub mod Lives
 pub mod States
+pub mod Turns

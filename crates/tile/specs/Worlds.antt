@@ -3,11 +3,16 @@ use Rattle.std.specs.Prelude.{◌≡◌, ℕ, zero, suc, cond, length, Some, Non
 use Rattle.mojette.specs.Meaning.{Shape, bins_of}
 use Rattle.mojette.specs.Refusals.{Refusal, refusal}
 use Rattle.law.specs.Steps.{Tables}
+use Rattle.notes.specs.declared.tally.Tally.{Ghosts as Telling}
 use Rattle.tile.specs.declared.lent.Tables.{Tables as Lent}
 
 -- what lent tables hold
 abbrev pub held : {S : Type 0} → Lent S → Tables S
 held t = record { picture = t.picture.now; marks = t.marks.now; sums = t.sums.now; counts = t.counts.now; queue = t.queue.now }
+
+-- the same, with the counts that a tally stands for
+abbrev pub told : {S X : Type 0} → Telling X → Shape → X → Lent S → Tables S
+told T shape x t = record { picture = t.picture.now; marks = t.marks.now; sums = t.sums.now; counts = T.counts_by shape x t.counts.now; queue = t.queue.now }
 
 -- Each table is still the caller's own, and as long as it was.
 pub record StillLent {S : Type 0} (t t' : Lent S) : Type 0 where

@@ -7,7 +7,6 @@ pub mod finish;
 pub mod lent;
 pub mod lives;
 pub mod load;
-pub mod noting;
 pub mod opening;
 pub mod peel;
 #[cfg(test)]

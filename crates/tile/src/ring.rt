@@ -1,8 +1,9 @@
 // The ring of positions that wait: appending to it, taking from it, giving back to it.
 ghost use Rattle.std.specs.Prelude.{◌≡◌, ◌%◌, ◌<◌, ◌≤◌, length, IfErr};
-ghost use Rattle.peeling.specs.Steps.{appended, queue_with};
+ghost use Rattle.peeling.specs.Steps.{appended, queue_with, take_answers, taken};
 ghost use Rattle.samples.specs.Kinds.{sum_words};
 ghost use Rattle.tile.specs.Calls.{Takes, GivesBack};
+ghost use Rattle.tile.specs.Turns.{Fronts};
 
 use crate::states::{Grant, Peeling, Refused};
 use mojette::{Fault, Table};
@@ -38,6 +39,34 @@ pub(crate) fn append(state: &mut State, queue: &mut [u16], bins: usize, at: usiz
     }
 }
 
+// The position in the cell at the head, which is the first that waits; or why none can be taken.
+#[tactic(auto, using(std::proofs::lemmas::Bool::Decides::nat_tests), unfolding(peeling::specs::Steps::take_answers, peeling::specs::Steps::front))]
+pub(crate) fn first(state: &State, queue: &[u16], bins: usize) -> Result<u16, Fault>
+    requires { (1 ≤ bins) × (bins ≤ length queue.now) }
+    ensures { Fronts (take_answers bins state.now queue.now) bins result }
+{
+    if state.waiting == 0 {
+        return Err(Fault::NoneWaits);
+    }
+    let cell = wrapped(state.head as usize, bins);
+    let position = queue[cell];
+    if position as usize >= bins {
+        return Err(Fault::BadCell(cell));
+    }
+    Ok(position)
+}
+
+// It leaves the ring, and is out.
+#[tactic(auto, using(std::proofs::lemmas::Bool::Decides::nat_tests), unfolding(peeling::specs::Steps::taken))]
+pub(crate) fn pass_first(state: &mut State, bins: usize)
+    requires { (1 ≤ bins) × (bins < 65536) }
+    ensures { state.new ≡ taken bins state.old }
+{
+    state.head = wrapped(state.head as usize + 1, bins) as u32;
+    state.waiting = state.waiting.saturating_sub(1);
+    state.out = state.out.saturating_add(1);
+}
+
 impl Peeling {
     // Grants the first position that waits. (Refusals are made in place, as in `finish`.)
     #[tactic(auto, using(std::proofs::lemmas::Bool::Decides::nat_tests), unfolding(law::specs::Steps::take, law::specs::Steps::short_queue, peeling::specs::Steps::take_answers, peeling::specs::Steps::front, peeling::specs::Steps::taken))]
@@ -51,26 +80,14 @@ impl Peeling {
                 fault: Fault::ShortTable(Table::Queue),
             });
         }
-        if self.state.waiting == 0 {
-            return Err(Refused {
-                back: self,
-                fault: Fault::NoneWaits,
-            });
+        match first(&self.state, queue, bins) {
+            Ok(position) => {
+                let Peeling { mut state } = self;
+                pass_first(&mut state, bins);
+                Ok((Peeling { state }, Grant { position }))
+            }
+            Err(fault) => Err(Refused { back: self, fault }),
         }
-        let head = self.state.head as usize;
-        let cell = wrapped(head, bins);
-        let position = queue[cell];
-        if position as usize >= bins {
-            return Err(Refused {
-                back: self,
-                fault: Fault::BadCell(cell),
-            });
-        }
-        let Peeling { mut state } = self;
-        state.head = wrapped(head + 1, bins) as u32;
-        state.waiting -= 1;
-        state.out = state.out.saturating_add(1);
-        Ok((Peeling { state }, Grant { position }))
     }
 
     // Appends the position of a grant again. (Refusals are made in place, as in `finish`: what goes back here is two values.)

@@ -6,20 +6,20 @@ ghost use Rattle.plan.specs.Shapes.{shape};
 ghost use Rattle.law.specs.Life.{LongEnough};
 ghost use Rattle.law.specs.Positions.{incidence};
 ghost use Rattle.law.specs.Steps.{blank, world_of};
-ghost use Rattle.walk.specs.Counts.{counts_after};
+ghost use Rattle.notes.specs.Missing.{by_marks};
 ghost use Rattle.tile.specs.Calls.{Seals};
 ghost use Rattle.tile.specs.Outcomes.{tables};
-ghost use Rattle.tile.specs.Seals.{unpeeled, singles_queued, Judges, Accepts};
-ghost use Rattle.tile.specs.Worlds.{StillLent, held};
+ghost use Rattle.tile.specs.Seals.{singles_queued, Judges, Accepts};
+ghost use Rattle.tile.specs.Worlds.{StillLent, held, told};
 
 use crate::lent::Tables;
 use crate::ring::append;
 use crate::states::{Loading, Peeling, Refused};
 use mojette::Fault;
+use notes::{Counts, Tally};
 use peeling::State;
 use plan::Plan;
 use samples::Kind;
-use walk::count_pixels;
 
 // One value in the first n cells. (`fill` would ask for a clone that cannot fail, which no kind promises.)
 // It takes n, and not the n cells alone, since its contract also says what stands behind them, in the words of the steps; plan's `clear` says the
@@ -33,48 +33,49 @@ pub(crate) fn fill<T: Copy>(n: usize, value: T, cells: &mut [T])
 
 // Queues every position whose bin has one pixel, rising. Its parts are lent one by one, as for `append`.
 #[tactic(auto, using(std::proofs::lemmas::Bool::Decides::nat_tests), unfolding(crate::specs::Seals::singles_queued))]
-fn queue_singles(state: &mut State, bins: usize, counts: &[u8], queue: &mut [u16])
-    requires { (1 ≤ bins) × ((bins < 65536) × ((bins ≤ length counts.now) × (bins ≤ length queue.old))) }
-    ensures { (state.new, queue.new) ≡ singles_queued bins bins counts.now (state.old, queue.old) }
+fn queue_singles<T: Tally>(
+    plan: &Plan,
+    tally: &T,
+    counts: &[u8],
+    state: &mut State,
+    queue: &mut [u16],
+)
+    requires { (bins_of (shape plan.now) ≤ length counts.now) × (bins_of (shape plan.now) ≤ length queue.old) }
+    ensures { (state.new, queue.new) ≡ singles_queued (bins_of (shape plan.now)) (bins_of (shape plan.now)) (T.counts_by (shape plan.now) tally.now counts.now) (state.old, queue.old) }
 {
-    for (at, count) in counts[..bins].iter().enumerate() {
-        if *count == 1 {
+    let bins = plan.total();
+    for at in 0..bins {
+        if tally.is_one(plan, at, counts) {
             append(state, queue, bins, at);
         }
     }
 }
 
-// Each bin counted, and those with one pixel queued: a tile of which all pixels are missing. It takes the two tables that it changes:
-// with all five its contract would say of three more that they stay.
-fn count_and_queue(plan: &Plan, counts: &mut [u8], queue: &mut [u16]) -> State
-    requires { (bins_of (shape plan.now) ≤ length counts.old) × (bins_of (shape plan.now) ≤ length queue.old) }
-    ensures counts { counts.new ≡ counts_after (shape plan.now) counts.old }
-    ensures ring { (result, queue.new) ≡ singles_queued (bins_of (shape plan.now)) (bins_of (shape plan.now)) counts.new (unpeeled (shape plan.now), queue.old) }
-{
-    // It is served: the table is long enough.
-    let _ = count_pixels(plan, counts);
-    let mut state = State {
-        head: 0,
-        waiting: 0,
-        out: 0,
-        left: plan.pixels() as u32,
-        settled: 0,
-    };
-    queue_singles(&mut state, plan.total(), counts, queue);
-    state
-}
-
 // The accepted part: all pixels missing, each bin counted, and those with one pixel queued.
-#[tactic(auto, using(std::proofs::lemmas::Bool::Decides::nat_tests, crate::proofs::Sealing::counted_is, crate::proofs::Sealing::queues), unfolding(peeling::specs::Steps::seal, peeling::specs::Steps::zeroed))]
-fn begin<K: Kind>(plan: &Plan, tables: &mut Tables<K>) -> State
+pub(crate) fn begin<K: Kind, T: Tally>(
+    plan: &Plan,
+    tables: &mut Tables<K>,
+    tally: &mut T,
+) -> State
     requires { LongEnough (shape plan.now) (held tables.old) }
     ensures lent { StillLent tables.old tables.new }
-    ensures world { world_of result (held tables.new) ≡ peel_seal K.Kind (incidence (shape plan.now)) (world_of blank (held tables.old)) }
+    ensures world { world_of result (told T.Tally (shape plan.now) tally.new tables.new) ≡ peel_seal K.Kind (incidence (shape plan.now)) (world_of blank (held tables.old)) }
+    ensures knows { T.knows (shape plan.now) (by_marks (shape plan.now) tables.new.marks.now) tally.new }
 {
     let pixels = plan.pixels();
     fill(pixels, K::zero_sample(), tables.picture);
     fill(pixels, 0, tables.marks);
-    count_and_queue(plan, tables.counts, tables.queue)
+    let counts = &mut *tables.counts;
+    tally.set_up(plan, counts);
+    let mut state = State {
+        head: 0,
+        waiting: 0,
+        out: 0,
+        left: pixels as u32,
+        settled: 0,
+    };
+    queue_singles(plan, tally, counts, &mut state, tables.queue);
+    state
 }
 
 // Whether Katz's criterion holds; where it fails the ghost is written.
@@ -137,7 +138,7 @@ impl Loading {
         };
         accept(self, plan, &mut tables)?;
         Ok(Peeling {
-            state: begin(plan, &mut tables),
+            state: begin(plan, &mut tables, &mut Counts),
         })
     }
 }
