@@ -41,7 +41,7 @@ same_refusal : {r s : Refusal} → refused r ≡ refused s → r ≡ s
 same_refusal {r} {s} e = cc
 
 -- Where sealing and peeling is refused, it is the seal that is.
-only_seals : {S : Type 0} (K : Operations S) (plan : Plan) (x : Loading) (t t' : Tables S) (r : Refused Loading) → SealsAndPeels K plan x t (Err r) t' → Seals K plan x t (Err r) t'
+pub only_seals : {S : Type 0} (K : Operations S) (plan : Plan) (x : Loading) (t t' : Tables S) (r : Refused Loading) → SealsAndPeels K plan x t (Err r) t' → Seals K plan x t (Err r) t'
 unfolding seal_and_peel
 only_seals {S} K plan x t t' r e = go (seal K (shape plan) x.loaded t) (seal K (shape plan) x.loaded t).answer e
   where
@@ -115,7 +115,7 @@ module _ {S : Type 0} (K : Operations S) (m : Meaning S) (plan : Plan) (own : sh
       peeled_so = ap (λ o. world_of (state_of o.stage blank) o.tables)
           (e ∙ ap (λ s. seal_and_peel K s x.loaded t) own ∙ ap (λ o. peeled_out K (shape_of m) o.answer o) accepted)
 
-      at_rest : Rest K m (world_of y.state t')
+      pub at_rest : Rest K m (world_of y.state t')
       at_rest = subst (Rest K m) (sym peeled_so) (all_peeled K m begun free)
 
   -- Finish --------------------------------------------------------------------------------------------------------------
@@ -186,7 +186,7 @@ module _ {S : Type 0} (K : Operations S) (m : Meaning S) (plan : Plan) (own : sh
 
 -- How a run begins ------------------------------------------------------------------------------------------------------
 module _ {S : Type 0} (K : Operations S) (m : Meaning S) (plan : Plan) (lawful : Lawful (shape_of m)) (own : shape plan ≡ shape_of m) (before : Tables S) where
-  begins : None ≡ short_refusal (short (shape plan) before) → Ready K m before
+  pub begins : None ≡ short_refusal (short (shape plan) before) → Ready K m before
   begins e = record { lawful = lawful; long = subst (λ s. LongEnough s before) own (all_long (shape plan) before e) }
 
   pub short_refused : (r : Refusal) → Some r ≡ short_refusal (short (shape plan) before) → Rebuilds K m before (refuses r) before
@@ -195,6 +195,13 @@ module _ {S : Type 0} (K : Operations S) (m : Meaning S) (plan : Plan) (lawful :
       go : (n : ℕ) → short (shape_of m) before ≡ n → Some r ≡ short_refusal n → Rebuilds K m before (refuses r) before
       go zero is e = absurd cc
       go (suc k) is e = let same : r ≡ refusal 5 (suc k) 0 0 = cc in subst (λ a. Rebuilds K m before (refuses a) before) (sym same) (too_short lawful is)
+
+  pub short_unready : (r : Refusal) → Some r ≡ short_refusal (short (shape plan) before) → ¬ (Ready K m before)
+  short_unready r e ready = go (short (shape plan) before) (ap (λ s. short s before) own ∙ none_short (shape_of m) before ready.long) e
+    where
+      go : (n : ℕ) → n ≡ 0 → Some r ≡ short_refusal n → ⊥
+      go zero is e = cc
+      go (suc k) is e = omega arith
 
   pub short_steps : (r : Refusal) → Some r ≡ short_refusal (short (shape plan) before) → (refuses r, before) ≡ one_worker K m before
   unfolding one_worker

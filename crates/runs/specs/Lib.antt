@@ -1,3 +1,4 @@
 pub mod Runs
 pub mod Rebuilding
 pub mod Worker
+pub mod Alone

@@ -59,6 +59,6 @@ module _ {S : Type 0} (K : Operations S) (m : Meaning S) where
   abbrev pub ServesExactly : Tables S → Answer → Type 0
   ServesExactly before a = Served a ↔ CanBeRebuilt before
 
--- A lawful source's shape is filled into the plan; else the plan is as it was.
-abbrev pub Fills : {S : Type 0} → Meaning S → Plan → Plan → Type 0
-Fills m plan plan' = (Lawful (shape_of m) → shape plan' ≡ shape_of m) × ((r : Refusal) → verdict (shape_of m) ≡ Some r → plan' ≡ plan)
+  -- The plan becomes the source's where the source is lawful and no table is too short; else it is as it was.
+  abbrev pub Fills : Tables S → Plan → Plan → Type 0
+  Fills before plan plan' = (Ready before → shape plan' ≡ shape_of m) × (¬ (Ready before) → plan' ≡ plan)

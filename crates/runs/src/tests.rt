@@ -69,3 +69,26 @@ fn a_ghost_and_a_contradiction(rt: HostRuntime) {
     let records = [Record::new(1, 1, 0), Record::new(-1, 1, 0)];
     assert!(rt; rebuilt(&records, &[2, 5, 3, 4, 6, 1], 8).is_some_and(|told| told.0 == (15, 1, 1)));
 }
+
+#[test]
+fn a_short_table_leaves_the_plan(rt: HostRuntime) {
+    let records = [Record::new(0, 1, 0)];
+    let run = [SumWord { value: 6 }, SumWord { value: 4 }];
+    if let (Ok(rack), Ok(mut plan)) = (Rack::new(2, 2, &records, &run), Plan::of(3, 1, &records)) {
+        let (mut picture, mut marks) = ([SumWord { value: 7 }; 4], [9; 4]);
+        let (mut sums, mut counts, mut queue) = ([SumWord { value: 7 }; 2], [9; 2], [9; 1]);
+        let answer = rebuild(
+            &rack,
+            &mut plan,
+            &mut picture,
+            &mut marks,
+            &mut sums,
+            &mut counts,
+            &mut queue,
+        );
+        assert!(rt; answer.is_err());
+        assert_eq!(rt; (plan.columns(), plan.rows()), (3, 1));
+    } else {
+        assert!(rt; false);
+    }
+}

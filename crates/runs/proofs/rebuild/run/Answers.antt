@@ -3,20 +3,12 @@ use Rattle.std.proofs.lemmas.Result.{err_from_is_err_and}
 use Rattle.mojette.specs.Faults.{refusal_of}
 use Rattle.tile.specs.Outcomes.{tables}
 use Rattle.tile.specs.Worlds.{held}
-use Rattle.runs.proofs.Endings.{short_refused, short_steps, loads_end, run_unsealed, unsealed_steps, run_served, served_steps, run_unfinished, unfinished_steps}
+use Rattle.runs.proofs.Endings.{loads_end, run_unsealed, unsealed_steps, run_served, served_steps, run_unfinished, unfinished_steps}
 use Rattle.runs.proofs.rebuild.run.Goals as goal
-
-pub returns-in_err-check-clause-run : goal.returns-in_err-check-clause-run
-returns-in_err-check-clause-run g c =
-    let K = g.S.Sample.Kind in
-    let m = g.S.Source.meaning c.args.source.now in
-    let before = held c.args.tables.now in
-    let p = err_from_is_err_and c.from_residual.result c.from_residual.ensures.1 in
-    rw (p.1, p.2) (short_refused K m c.args.plan.now c.requires.lawful c.requires.own before (refusal_of c.in_err-check.field-0.0) c.in_err-check.ensures)
 
 pub unreachable-requires : goal.unreachable-requires
 unreachable-requires g c =
-    loads_end g.S.Sample.Kind (g.S.Source.meaning c.args.source.now) c.args.plan.now c.requires.lawful c.requires.own (held c.args.tables.now) c.in_ok-check.ensures
+    loads_end g.S.Sample.Kind (g.S.Source.meaning c.args.source.now) c.args.plan.now c.requires.lawful c.requires.own (held c.args.tables.now) c.requires.long
     c.args.tile c.requires.opened c.load_all.new.sums (Err c.in_default.field-0) c.in_default.ensures
 
 pub returns-in_err-tile-clause-run : goal.returns-in_err-tile-clause-run
@@ -25,8 +17,8 @@ returns-in_err-tile-clause-run g c =
     let m = g.S.Source.meaning c.args.source.now in
     let before = held c.args.tables.now in
     let t = tables c.seal_and_peel.new.picture c.seal_and_peel.new.marks c.seal_and_peel.new.sums c.seal_and_peel.new.counts c.seal_and_peel.new.queue in
-    let p = err_from_is_err_and c.from_residual-in_err-tile.result c.from_residual-in_err-tile.ensures.1 in
-    rw (p.1, p.2) (run_unsealed K m c.args.plan.now c.requires.lawful c.requires.own before c.in_ok-check.ensures c.args.tile c.requires.opened
+    let p = err_from_is_err_and c.from_residual.result c.from_residual.ensures.1 in
+    rw (p.1, p.2) (run_unsealed K m c.args.plan.now c.requires.lawful c.requires.own before c.requires.long c.args.tile c.requires.opened
     c.load_all.new.sums c.in-Ok.tile c.in-Ok.ensures t c.in_err-tile.field-0.0 c.in_err-tile.ensures)
 
 pub returns-in_err-finish-clause-run : goal.returns-in_err-finish-clause-run
@@ -36,23 +28,15 @@ returns-in_err-finish-clause-run g c =
     let before = held c.args.tables.now in
     let t = tables c.seal_and_peel.new.picture c.seal_and_peel.new.marks c.seal_and_peel.new.sums c.seal_and_peel.new.counts c.seal_and_peel.new.queue in
     let p = err_from_is_err_and c.from_residual-in_err-finish.result c.from_residual-in_err-finish.ensures.1 in
-    rw (p.1, p.2) (run_unfinished K m c.args.plan.now c.requires.lawful c.requires.own before c.in_ok-check.ensures c.args.tile c.requires.opened
+    rw (p.1, p.2) (run_unfinished K m c.args.plan.now c.requires.lawful c.requires.own before c.requires.long c.args.tile c.requires.opened
     c.load_all.new.sums c.in-Ok.tile c.in-Ok.ensures t c.in_ok-tile.tile c.in_ok-tile.ensures
     c.in_err-finish.field-0.0 c.in_err-finish.ensures.step)
 
 pub returns-clause-run : goal.returns-clause-run
 returns-clause-run g c =
     let t = tables c.seal_and_peel.new.picture c.seal_and_peel.new.marks c.seal_and_peel.new.sums c.seal_and_peel.new.counts c.seal_and_peel.new.queue in
-    run_served g.S.Sample.Kind (g.S.Source.meaning c.args.source.now) c.args.plan.now c.requires.lawful c.requires.own (held c.args.tables.now) c.in_ok-check.ensures
+    run_served g.S.Sample.Kind (g.S.Source.meaning c.args.source.now) c.args.plan.now c.requires.lawful c.requires.own (held c.args.tables.now) c.requires.long
     c.args.tile c.requires.opened c.load_all.new.sums c.in-Ok.tile c.in-Ok.ensures t c.in_ok-tile.tile c.in_ok-tile.ensures c.in_ok-finish.field-0 c.in_ok-finish.ensures.step c.in_ok-finish.ensures.cells
-
-pub returns-in_err-check-clause-by_steps : goal.returns-in_err-check-clause-by_steps
-returns-in_err-check-clause-by_steps g c =
-    let K = g.S.Sample.Kind in
-    let m = g.S.Source.meaning c.args.source.now in
-    let before = held c.args.tables.now in
-    let p = err_from_is_err_and c.from_residual.result c.from_residual.ensures.1 in
-    rw (p.1, p.2) (short_steps K m c.args.plan.now c.requires.lawful c.requires.own before (refusal_of c.in_err-check.field-0.0) c.in_err-check.ensures)
 
 pub returns-in_err-tile-clause-by_steps : goal.returns-in_err-tile-clause-by_steps
 returns-in_err-tile-clause-by_steps g c =
@@ -60,8 +44,8 @@ returns-in_err-tile-clause-by_steps g c =
     let m = g.S.Source.meaning c.args.source.now in
     let before = held c.args.tables.now in
     let t = tables c.seal_and_peel.new.picture c.seal_and_peel.new.marks c.seal_and_peel.new.sums c.seal_and_peel.new.counts c.seal_and_peel.new.queue in
-    let p = err_from_is_err_and c.from_residual-in_err-tile.result c.from_residual-in_err-tile.ensures.1 in
-    rw (p.1, p.2) (unsealed_steps K m c.args.plan.now c.requires.lawful c.requires.own before c.in_ok-check.ensures c.args.tile c.requires.opened
+    let p = err_from_is_err_and c.from_residual.result c.from_residual.ensures.1 in
+    rw (p.1, p.2) (unsealed_steps K m c.args.plan.now c.requires.lawful c.requires.own before c.requires.long c.args.tile c.requires.opened
     c.load_all.new.sums c.in-Ok.tile c.in-Ok.ensures t c.in_err-tile.field-0.0 c.in_err-tile.ensures)
 
 pub returns-in_err-finish-clause-by_steps : goal.returns-in_err-finish-clause-by_steps
@@ -71,12 +55,12 @@ returns-in_err-finish-clause-by_steps g c =
     let before = held c.args.tables.now in
     let t = tables c.seal_and_peel.new.picture c.seal_and_peel.new.marks c.seal_and_peel.new.sums c.seal_and_peel.new.counts c.seal_and_peel.new.queue in
     let p = err_from_is_err_and c.from_residual-in_err-finish.result c.from_residual-in_err-finish.ensures.1 in
-    rw (p.1, p.2) (unfinished_steps K m c.args.plan.now c.requires.lawful c.requires.own before c.in_ok-check.ensures c.args.tile c.requires.opened
+    rw (p.1, p.2) (unfinished_steps K m c.args.plan.now c.requires.lawful c.requires.own before c.requires.long c.args.tile c.requires.opened
     c.load_all.new.sums c.in-Ok.tile c.in-Ok.ensures t c.in_ok-tile.tile c.in_ok-tile.ensures
     c.in_err-finish.field-0.0 c.in_err-finish.ensures.step)
 
 pub returns-clause-by_steps : goal.returns-clause-by_steps
 returns-clause-by_steps g c =
     let t = tables c.seal_and_peel.new.picture c.seal_and_peel.new.marks c.seal_and_peel.new.sums c.seal_and_peel.new.counts c.seal_and_peel.new.queue in
-    served_steps g.S.Sample.Kind (g.S.Source.meaning c.args.source.now) c.args.plan.now c.requires.lawful c.requires.own (held c.args.tables.now) c.in_ok-check.ensures
+    served_steps g.S.Sample.Kind (g.S.Source.meaning c.args.source.now) c.args.plan.now c.requires.lawful c.requires.own (held c.args.tables.now) c.requires.long
     c.args.tile c.requires.opened c.load_all.new.sums c.in-Ok.tile c.in-Ok.ensures t c.in_ok-tile.tile c.in_ok-tile.ensures c.in_ok-finish.field-0 c.in_ok-finish.ensures.step c.in_ok-finish.ensures.cells
