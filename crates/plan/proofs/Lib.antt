@@ -10,3 +10,4 @@ pub mod Shows
 pub mod Taking
 pub mod Verdicts
 pub mod Wrong
+mod Starts

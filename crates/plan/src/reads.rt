@@ -1,5 +1,6 @@
 // Reading a plan.
 ghost use Rattle.std.specs.Prelude.{◌≡◌, ◌<◌, ◌≤◌, length};
+ghost use Rattle.mojette.specs.Bins.{start};
 ghost use Rattle.mojette.specs.Meaning.{pixels_of, bins_of};
 ghost use Rattle.plan.specs.Shapes.{shape, places_of};
 
@@ -39,6 +40,16 @@ impl Plan {
         ensures { result ≡ length (shape self.now).records }
     {
         self.places().len()
+    }
+
+    // The position of bin 0 of place i; T, where the last place ends, where there is no place i.
+    pub fn start(&self, i: usize) -> usize
+        ensures { result ≡ start (shape self.now).P (shape self.now).Q (shape self.now).records i }
+    {
+        match self.places().get(i) {
+            Some(place) => place.start,
+            None => self.total,
+        }
     }
 
     // How many pixels the tile has.

@@ -65,7 +65,8 @@ module _ {S : Type 0} (K : Operations S) (plan : Plan) (c : ℕ) (v : S) (w : Wo
     lost_turn lost same = same ∙ so_far ∙ off_lost lost
 
 -- where the code finds the bin of a pixel at a turn
-pub lies_here : (plan : Plan) (ys : List Place) (i : ℕ) (x : Pixel) (at P Q : ℕ) → Turn plan ys i → P ≡ plan.size.columns → Q ≡ plan.size.rows →
-    OfTile plan.size.columns plan.size.rows x → LiesWherever P Q (place_at ys i) x at → Lies plan i x.cell at
-lies_here plan ys i x at P Q t e f on lies =
-    lies plan (sym e) (sym f) i t.known (sym t.same) (subst₂ (λ m n. OfTile m n x) (sym e) (sym f) on)
+pub lies_here : (plan : Plan) (ys : List Place) (i : ℕ) (x : Pixel) (first b P Q : ℕ) → Turn plan ys i → P ≡ plan.size.columns → Q ≡ plan.size.rows →
+    OfTile plan.size.columns plan.size.rows x → first ≡ starts plan i → LiesWherever P Q (place_at ys i) x b → Lies plan i x.cell (first + b)
+lies_here plan ys i x first b P Q t e f on is lies =
+    subst (λ n. Lies plan i x.cell (n + b)) (sym is)
+    (lies plan (sym e) (sym f) i t.known (sym t.same) (subst₂ (λ m n. OfTile m n x) (sym e) (sym f) on))

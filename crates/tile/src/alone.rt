@@ -24,7 +24,12 @@ use plan::Plan;
 use samples::Kind;
 
 // One turn: the first position that waits is taken, and settled. Whether there was one; else nothing changes. (Lent one by one, as to peel a bin.)
-fn turn<K: Kind, T: Tally>(plan: &Plan, state: &mut State, tables: &mut Tables<K>, tally: &mut T) -> bool
+fn turn<K: Kind, T: Tally>(
+    plan: &Plan,
+    state: &mut State,
+    tables: &mut Tables<K>,
+    tally: &mut T,
+) -> bool
     requires long { LongEnough (shape plan.now) (held tables.old) }
     requires knows { T.knows (shape plan.now) (by_marks (shape plan.now) tables.old.marks.now) tally.old }
     ensures lent { StillLent tables.old tables.new }
@@ -46,7 +51,12 @@ fn turn<K: Kind, T: Tally>(plan: &Plan, state: &mut State, tables: &mut Tables<K
 }
 
 // All turns, until nothing waits. (Lent one by one, as to peel a bin.)
-fn peel_all<K: Kind, T: Tally>(plan: &Plan, state: &mut State, tables: &mut Tables<K>, tally: &mut T)
+fn peel_all<K: Kind, T: Tally>(
+    plan: &Plan,
+    state: &mut State,
+    tables: &mut Tables<K>,
+    tally: &mut T,
+)
     requires long { LongEnough (shape plan.now) (held tables.old) }
     requires knows { T.knows (shape plan.now) (by_marks (shape plan.now) tables.old.marks.now) tally.old }
     ensures lent { StillLent tables.old tables.new }

@@ -16,7 +16,7 @@ use notes::Tally;
 use peeling::State;
 use plan::Plan;
 use samples::{Kind, minus};
-use walk::{Pixel, bin_at};
+use walk::{Pixel, bin_of};
 
 // Takes v, and a found pixel, off the bin at one position, which is appended where its count becomes 1. Plan, state, tables and tally are lent one by one:
 // a state with its tables in one struct would be made of lent parts, and what is written through such a one is not known afterwards.
@@ -65,10 +65,9 @@ fn take_off_all<K: Kind, T: Tally>(
     let places = plan.places();
     let columns = plan.columns();
     let rows = plan.rows();
-    // With their index, one of the forms that docs/DECISIONS.md names.
-    for (_i, place) in places.iter().enumerate() {
+    for (i, place) in places.iter().enumerate() {
         if place.is_whole() {
-            let at = bin_at(columns, rows, place, pixel);
+            let at = plan.start(i) + bin_of(columns, rows, place, pixel);
             take_off(plan, v, at, pixel.cell, state, tables, tally);
         }
     }

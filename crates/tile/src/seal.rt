@@ -52,11 +52,7 @@ fn queue_singles<T: Tally>(
 }
 
 // The accepted part: all pixels missing, each bin counted, and those with one pixel queued.
-pub(crate) fn begin<K: Kind, T: Tally>(
-    plan: &Plan,
-    tables: &mut Tables<K>,
-    tally: &mut T,
-) -> State
+pub(crate) fn begin<K: Kind, T: Tally>(plan: &Plan, tables: &mut Tables<K>, tally: &mut T) -> State
     requires { LongEnough (shape plan.now) (held tables.old) }
     ensures lent { StillLent tables.old tables.new }
     ensures world { world_of result (told T.Tally (shape plan.now) tally.new tables.new) ≡ peel_seal K.Kind (incidence (shape plan.now)) (world_of blank (held tables.old)) }

@@ -11,7 +11,7 @@ use Rattle.plan.specs.Shapes.{shape, places_of}
 use Rattle.plan.proofs.Cells.{bin_inside, lies_there, lies_only_there}
 use Rattle.walk.specs.declared.pixel.Pixel.{Pixel}
 use Rattle.walk.specs.Finding.{OfTile}
-use Rattle.walk.specs.Lying.{Lies, LiesWherever}
+use Rattle.walk.specs.Lying.{starts, Lies, LiesWherever}
 use Rattle.walk.proofs.Laying.{bins_are, start_is, next_is, ends_inside, lies_is}
 
 module _ (plan : Plan) (i : ℕ) (l : i < length (places_of plan)) (pixel : Pixel) (of : OfTile plan.size.columns plan.size.rows pixel) where
@@ -54,12 +54,12 @@ module _ (plan : Plan) (i : ℕ) (l : i < length (places_of plan)) (pixel : Pixe
         ∙ and_right (whole (record_of x)) _ (no_other (y - x.start) (λ same. ne (omega arith)));
   }
 
-  pub lies_modulo : Lies plan i pixel.cell ((x.start + b) % 2 ^ 64)
+  pub lies_modulo : Lies plan i pixel.cell (starts plan i + b % 2 ^ 64)
   lies_modulo =
-      let few : x.start + b < 2 ^ 64 = omega (arith, inside, ends_inside plan i l, plan.few_bins) in
-      subst (Lies plan i pixel.cell) (sym (mod-eq_of_lt few)) lies
+      let few : b < 2 ^ 64 = omega (arith, inside, ends_inside plan i l, plan.few_bins) in
+      subst (Lies plan i pixel.cell) (λ j. start_is plan i l j + sym (mod-eq_of_lt few) j) lies
 
-pub lies_wherever : (P Q : ℕ) (place : Place) (pixel : Pixel) (at : ℕ) → at ≡ (place.start + bin_number P Q place pixel.column pixel.row) % 2 ^ 64 → LiesWherever P Q place pixel at
-lies_wherever P Q place pixel at is plan columns rows i l same of =
+pub lies_wherever : (P Q : ℕ) (place : Place) (pixel : Pixel) (b : ℕ) → b ≡ bin_number P Q place pixel.column pixel.row % 2 ^ 64 → LiesWherever P Q place pixel b
+lies_wherever P Q place pixel b is plan columns rows i l same of =
     let own : OfTile plan.size.columns plan.size.rows pixel = subst (λ n. OfTile n plan.size.rows pixel) (sym columns) (subst (λ n. OfTile P n pixel) (sym rows) of) in
-    subst (Lies plan i pixel.cell) ((λ j. ((same j).start + bin_number (columns j) (rows j) (same j) pixel.column pixel.row) % 2 ^ 64) ∙ sym is) (lies_modulo plan i l pixel own)
+    subst (Lies plan i pixel.cell) (ap (λ n. starts plan i + n) ((λ j. bin_number (columns j) (rows j) (same j) pixel.column pixel.row % 2 ^ 64) ∙ sym is)) (lies_modulo plan i l pixel own)

@@ -20,8 +20,8 @@ pub record Lies (plan : Plan) (i c at : ℕ) : Type 0 where
   pub there : (nth (places_of plan) i).cause ≡ 0 → (incidence (shape plan)).lies c at ≡ true
   pub only : (x : ℕ) → starts plan i ≤ x → x < starts plan (i + 1) → (x ≢ at) → (incidence (shape plan)).lies c x ≡ false
 
--- It does so wherever a plan for P by Q pixels has this place, and its tile this pixel.
+-- It lies in bin b wherever a plan for P by Q pixels has this place, and its tile this pixel.
 abbrev pub LiesWherever : ℕ → ℕ → Place → Pixel → ℕ → Type 0
-LiesWherever P Q place pixel at =
+LiesWherever P Q place pixel b =
     (plan : Plan) → (shape plan).P ≡ P → (shape plan).Q ≡ Q → (i : ℕ) → i < length (places_of plan) → nth (places_of plan) i ≡ place
-    → OfTile P Q pixel → Lies plan i pixel.cell at
+    → OfTile P Q pixel → Lies plan i pixel.cell (starts plan i + b)

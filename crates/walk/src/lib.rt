@@ -9,5 +9,5 @@ pub mod lookups;
 pub mod pixel;
 
 pub use counts::count_pixels;
-pub use lookups::{bin_at, lone_pixel, place_of};
+pub use lookups::{bin_of, lone_pixel, place_of};
 pub use pixel::Pixel;

@@ -1,5 +1,5 @@
 // Which place and bin a position is, and which pixel of a bin is missing.
-ghost use Rattle.std.specs.Prelude.{◌≡◌, ◌+◌, ◌%◌, ◌^◌, ◌≤◌, IfSome, MatchOption};
+ghost use Rattle.std.specs.Prelude.{◌≡◌, ◌%◌, ◌^◌, ◌≤◌, IfSome, MatchOption};
 ghost use Rattle.mojette.specs.Meaning.{bins_of};
 ghost use Rattle.plan.specs.Laid.{bin_number};
 ghost use Rattle.plan.specs.Shapes.{shape};
@@ -41,11 +41,10 @@ pub fn lone_pixel(plan: &Plan, at: usize, marks: &[u8]) -> Option<Pixel>
     Line { size, place, bin }.lone(marks)
 }
 
-// The position of the bin of a place in which a pixel lies: one sum for any numbers, which is that position where the place is one
-// of a plan for so many columns and rows, and the pixel one of its tile. Two numbers and no size, which would ask more of callers;
-// so differences stop at 0 here.
-pub fn bin_at(columns: usize, rows: usize, place: &Place, pixel: Pixel) -> usize
-    ensures sum { result ≡ (place.now.start + bin_number columns rows place.now pixel.column pixel.row) % 2 ^ 64 }
+// The bin of a place in which a pixel lies: one number for any numbers, which is that bin where the place is one of a plan for so many
+// columns and rows, and the pixel one of its tile. Two numbers and no size, which would ask more of callers; so differences stop at 0 here.
+pub fn bin_of(columns: usize, rows: usize, place: &Place, pixel: Pixel) -> usize
+    ensures number { result ≡ bin_number columns rows place.now pixel.column pixel.row % 2 ^ 64 }
     ensures lies { LiesWherever columns rows place.now pixel result }
 {
     let across = columns.saturating_sub(1).saturating_sub(pixel.column);
@@ -54,8 +53,7 @@ pub fn bin_at(columns: usize, rows: usize, place: &Place, pixel: Pixel) -> usize
     } else {
         pixel.row
     };
-    let bin = across
+    across
         .wrapping_mul(place.q)
-        .wrapping_add(along.wrapping_mul(place.slope));
-    place.start.wrapping_add(bin)
+        .wrapping_add(along.wrapping_mul(place.slope))
 }

@@ -25,13 +25,22 @@ loop-i-init g c = record {
   knows = λ m known misses. g.T.Tally.alike (shape c.args.plan.now) _ _ _ (found_none (shape c.args.plan.now) m c.args.pixel.cell) known;
 }
 
+pub overflow_add-at : goal.overflow_add-at
+overflow_add-at g c =
+    let plan = c.args.plan.now in
+    let t = turn plan c.places-places.result.now c.loop-i.i c.places-places.ensures c.loop-i-test.true in
+    let lies = lies_here plan c.places-places.result.now c.loop-i.i c.args.pixel c.start.result c.bin_of.result c.columns-columns.result c.rows-rows.result t
+    c.columns-columns.ensures c.rows-rows.ensures c.requires.pixel c.start.ensures c.bin_of.ensures.lies in
+    omega (arith, lies.below, t.next, t.inside, plan.few_bins)
+
 pub take_off-requires : goal.take_off-requires
 take_off-requires g c =
     let plan = c.args.plan.now in
-    let t = turn plan c.places-places.result.now c.loop-i._i c.places-places.ensures c.loop-i-test.true in
-    let lies = lies_here plan c.places-places.result.now c.loop-i._i c.args.pixel c.bin_at-at.result c.columns-columns.result c.rows-rows.result t
-    c.columns-columns.ensures c.rows-rows.ensures c.requires.pixel c.bin_at-at.ensures.lies in
-    let inside : c.bin_at-at.result < bins_of (shape plan) = omega (arith, lies.below, t.next, t.inside, plan.full) in
+    let t = turn plan c.places-places.result.now c.loop-i.i c.places-places.ensures c.loop-i-test.true in
+    let at = c.start.result + c.bin_of.result in
+    let lies = lies_here plan c.places-places.result.now c.loop-i.i c.args.pixel c.start.result c.bin_of.result c.columns-columns.result c.rows-rows.result t
+    c.columns-columns.ensures c.rows-rows.ensures c.requires.pixel c.start.ensures c.bin_of.ensures.lies in
+    let inside : at < bins_of (shape plan) = omega (arith, lies.below, t.next, t.inside, plan.full) in
     record {
       at = inside;
       cell = cell_inside plan c.args.pixel c.requires.pixel;
@@ -39,7 +48,7 @@ take_off-requires g c =
       knows = (
         _,
         c.loop-i.invariant.knows c.requires.knows.0 c.requires.knows.1 c.requires.knows.2,
-        still_there (shape plan) c.requires.knows.0 c.args.pixel.cell c.requires.knows.2 c.bin_at-at.result (starts plan c.loop-i._i) inside lies.from
+        still_there (shape plan) c.requires.knows.0 c.args.pixel.cell c.requires.knows.2 at (starts plan c.loop-i.i) inside lies.from
             (lies.there (sym (ap (λ x. x.cause) t.same) ∙ eqb-true _ 0 (sym c.is_whole.ensures ∙ c.if-is_whole.true))),
       );
     }
@@ -50,7 +59,7 @@ loop-i-preserved g c =
     let T = g.T.Tally in
     let plan = c.args.plan.now in
     let s = shape plan in
-    let i = c.loop-i._i in
+    let i = c.loop-i.i in
     let cell = c.args.pixel.cell in
     let v = c.args.v in
     let t = turn plan c.places-places.result.now i c.places-places.ensures c.loop-i-test.true in
@@ -59,22 +68,23 @@ loop-i-preserved g c =
     let after = world_of c.if-is_whole.state (told T s c.if-is_whole.tally c.if-is_whole.tables) in
     elim c.if-is_whole.branch [
       | then-is_whole w ↦
-          let lies = lies_here plan c.places-places.result.now i c.args.pixel w.bin_at-at.result c.columns-columns.result c.rows-rows.result t
-          c.columns-columns.ensures c.rows-rows.ensures c.requires.pixel w.bin_at-at.ensures.lies in
-          let inside : w.bin_at-at.result < bins_of s = omega (arith, lies.below, t.next, t.inside, plan.full) in
+          let at = w.start.result + w.bin_of.result in
+          let lies = lies_here plan c.places-places.result.now i c.args.pixel w.start.result w.bin_of.result c.columns-columns.result c.rows-rows.result t
+          c.columns-columns.ensures c.rows-rows.ensures c.requires.pixel w.start.ensures w.bin_of.ensures.lies in
+          let inside : at < bins_of s = omega (arith, lies.below, t.next, t.inside, plan.full) in
           let here = sym (ap (λ x. x.cause) t.same) ∙ eqb-true _ 0 (sym c.is_whole.ensures ∙ w.if-is_whole.true) in
           let last = w.take_off.new in record {
             lent = lent_on c.loop-i.invariant.lent (subst (λ x. StillLent c.loop-i.tables x) (sym w.tables-is) w.take_off.ensures.lent);
             marks = ap (λ x. x.marks.now) w.tables-is ∙ w.take_off.ensures.marks ∙ c.loop-i.invariant.marks;
-            world = whole_turn K plan cell v first i t.known before after c.loop-i.invariant.world w.bin_at-at.result lies here
+            world = whole_turn K plan cell v first i t.known before after c.loop-i.invariant.world at lies here
                 (world_of last.state (told T s last.tally last.tables)) w.take_off.ensures.world
                 (λ j. world_of (w.state-is j) (told T s (w.tally-is j) (w.tables-is j)));
             knows = λ m known misses.
                 subst (λ x. T.knows s (found_below (starts plan (i + 1)) cell m) x) (sym w.tally-is)
                 (T.alike s _ _ _
-                (found_next s m cell misses (starts plan i) (starts plan (i + 1)) (omega (arith, next_start plan i t.known)) w.bin_at-at.result lies.from lies.below (λ b low high ne. lies.only b low high ne))
+                (found_next s m cell misses (starts plan i) (starts plan (i + 1)) (omega (arith, next_start plan i t.known)) at lies.from lies.below (λ b low high ne. lies.only b low high ne))
                 (w.take_off.ensures.knows _ (c.loop-i.invariant.knows m known misses)
-                (still_there s m cell misses w.bin_at-at.result (starts plan i) inside lies.from (lies.there here))));
+                (still_there s m cell misses at (starts plan i) inside lies.from (lies.there here))));
           }
       | else-is_whole w ↦
           let lost = sym (ap (λ x. x.cause == 0) t.same) ∙ sym c.is_whole.ensures ∙ w.if-is_whole.false in record {
@@ -94,7 +104,7 @@ pub returns : goal.returns
 returns g c =
     let plan = c.args.plan.now in
     let e = ap length c.places-places.ensures in
-    let all = all_starts plan c.loop-i._i (omega (arith, c.loop-i.auto._i-end)) (omega (arith, c.loop-i-test.false)) in
+    let all = all_starts plan c.loop-i.i (omega (arith, c.loop-i.auto.i-end)) (omega (arith, c.loop-i-test.false)) in
     record {
       lent = c.loop-i.invariant.lent;
       marks = c.loop-i.invariant.marks;

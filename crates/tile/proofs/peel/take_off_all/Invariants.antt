@@ -14,6 +14,6 @@ invariant-loop-i g l = record {
   lent : StillLent l.initial.tables l.tables;
   marks : l.tables.marks.now ≡ l.initial.tables.marks.now;
   world : world_of l.state (told g.T.Tally (shape l.plan) l.tally l.tables)
-      ≡ take_off_all g.K.Kind (incidence (shape l.plan)) l.pixel.cell l.v (starts l.plan l._i) (world_of l.initial.state (told g.T.Tally (shape l.plan) l.initial.tally l.initial.tables));
-  knows : (m : Missing) → g.T.Tally.knows (shape l.plan) m l.initial.tally → Misses (shape l.plan) m l.pixel.cell → g.T.Tally.knows (shape l.plan) (found_below (starts l.plan l._i) l.pixel.cell m) l.tally;
+      ≡ take_off_all g.K.Kind (incidence (shape l.plan)) l.pixel.cell l.v (starts l.plan l.i) (world_of l.initial.state (told g.T.Tally (shape l.plan) l.initial.tally l.initial.tables));
+  knows : (m : Missing) → g.T.Tally.knows (shape l.plan) m l.initial.tally → Misses (shape l.plan) m l.pixel.cell → g.T.Tally.knows (shape l.plan) (found_below (starts l.plan l.i) l.pixel.cell m) l.tally;
 }
