@@ -13,6 +13,8 @@ use Rattle.mojette.specs.Refusals.{Refusal}
 use Rattle.format.specs.Listing.{picture_text, ghost_text, refusal_text}
 use Rattle.law.specs.Law.{shown}
 use Rattle.law.specs.Steps.{Tables}
+use Rattle.plan.specs.declared.plan.Plan.{Plan}
+use Rattle.plan.specs.Shapes.{shape}
 use Rattle.runs.specs.Rebuilding.{Answer, refuses}
 use Rattle.runs.specs.Worker.{one_worker}
 use Rattle.writing.specs.Splices.{filling, listing}
@@ -20,8 +22,12 @@ use Rattle.answers.specs.Tiles.{most_bins, oversize, clear_tables, answered}
 use Rattle.answers.specs.Answers.{listed, listing_of, judged, tile_answer}
 
 -- a tile has at most 4096 pixels
-pub pixels_few : (P Q : ℕ) (s : Shape) → P ≤ 64 → Q ≤ 64 → P ≡ s.P → Q ≡ s.Q → pixels_of s ≤ 4096
+pixels_few : (P Q : ℕ) (s : Shape) → P ≤ 64 → Q ≤ 64 → P ≡ s.P → Q ≡ s.Q → pixels_of s ≤ 4096
 pixels_few P Q s p q is-P is-Q = let l : s.P * s.Q ≤ 64 * 64 = mul-le s.P s.Q 64 64 (omega (arith, p, is-P)) (omega (arith, q, is-Q)) in omega (arith, l)
+
+pub own_pixels_few : (plan : Plan) (s : Shape) → shape plan ≡ s → pixels_of s ≤ 4096
+own_pixels_few plan s own =
+    pixels_few plan.size.columns plan.size.rows s plan.size.few_columns plan.size.few_rows (ap (λ t. t.P) own) (ap (λ t. t.Q) own)
 
 -- a picture with all its pixels is listed as any text is
 whole : {S : Type 0} (P Q : ℕ) (picture : List S) (t out : List ℕ) → P * Q ≤ length picture → listing P Q picture t out ≡ filling t out

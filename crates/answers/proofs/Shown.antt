@@ -9,7 +9,7 @@ use Rattle.law.specs.Law.{shown}
 use Rattle.law.specs.Life.{LongEnough}
 use Rattle.law.specs.Steps.{Tables, short}
 use Rattle.law.proofs.Sealing.{none_short}
-use Rattle.runs.specs.Rebuilding.{Answer, Rebuilds, unlawful, too_short, ghosted, contradicted, rebuilt}
+use Rattle.runs.specs.Rebuilding.{Answer, Ready, Rebuilds, unlawful, too_short, ghosted, contradicted, rebuilt}
 use Rattle.runs.specs.Worker.{one_worker}
 use Rattle.answers.specs.Tiles.{most_bins, clear_tables, answered}
 use Rattle.answers.specs.Answers.{listed, listing_of}
@@ -27,6 +27,9 @@ module _ {S : Type 0} (K : Operations S) (C : Codes S) (m : Meaning S) (lawful :
     counts = let e = length-replicate {A = ℕ} 8192 0 in omega (arith, bins, e);
     queue = let e = length-replicate {A = ℕ} 8192 0 in omega (arith, bins, e);
   }
+
+  pub ready : (before : Tables S) → before ≡ clear_tables K → Ready K m before
+  ready before clear = record { lawful = lawful; long = subst (LongEnough (shape_of m)) (sym clear) roomy }
 
   never : (r : Refusal) → None ≡ Some r → ⊥
   never r e = cc

@@ -9,8 +9,8 @@ use Rattle.plan.specs.Shapes.{shape}
 use Rattle.writing.specs.Splices.{filling, listing}
 use Rattle.answers.specs.Tiles.{clear_tables, answered}
 use Rattle.answers.specs.Answers.{listed}
-use Rattle.answers.proofs.Shown.{shows}
-use Rattle.answers.proofs.Listings.{pixels_few, picture_fills, ghost_fills, ghost_listed, other_listed, listed_by}
+use Rattle.answers.proofs.Shown.{ready, shows}
+use Rattle.answers.proofs.Listings.{own_pixels_few, picture_fills, ghost_fills, ghost_listed, other_listed, listed_by}
 use Rattle.answers.proofs.Lengths.{same_length, listed_length}
 use Rattle.answers.proofs.show.list_tile.Goals as goal
 
@@ -19,16 +19,15 @@ returns-in-Ok-clause-text g c =
     let K = g.S.Sample.Kind in
     let C = g.S.Sample.Coded in
     let m = g.S.Source.meaning c.args.source.now in
-    let own : shape c.rebuild-answer.new.plan ≡ shape_of m = c.rebuild-answer.ensures.plan.0 c.requires.lawful in
+    let pixels = own_pixels_few c.args.plan (shape_of m) c.requires.own in
     let new = c.rebuild-answer.new in
     let after = tables new.picture new.marks new.sums new.counts new.queue in
     let before = tables c.args.picture.now (replicate 4096 0) c.args.sums.now (replicate 8192 0) (replicate 8192 0) in
     let clear : before ≡ clear_tables K = rw (c.requires.picture, c.requires.sums) refl in
+    let own : shape new.plan ≡ shape_of m = c.rebuild-answer.ensures.plan.0 (ready K C m c.requires.lawful pixels c.requires.few before clear) in
     let few : pixels_of (shape_of m) ≤ length new.picture =
-    let size = new.plan.size in
-    let l = pixels_few size.columns size.rows (shape_of m) size.few_columns size.few_rows (ap (λ s. s.P) own) (ap (λ s. s.Q) own) in
     let long : length new.picture ≡ 4096 = c.rebuild-answer.auto.picture ∙ ap length c.requires.picture ∙ length-replicate 4096 K.zero in
-    omega (arith, l, long) in
+    omega (arith, pixels, long) in
     c.write_picture.ensures.text
     ∙ picture_fills K C (shape_of m) c.pixels.result (c.pixels.ensures ∙ ap pixels_of own) new.picture few c.args.out.now
     c.size.result.columns c.size.result.rows (c.size.ensures.columns ∙ ap (λ s. s.P) own) (c.size.ensures.rows ∙ ap (λ s. s.Q) own)
@@ -39,17 +38,16 @@ returns-in-Ghost-clause-text g c =
     let K = g.S.Sample.Kind in
     let C = g.S.Sample.Coded in
     let m = g.S.Source.meaning c.args.source.now in
-    let own : shape c.rebuild-answer.new.plan ≡ shape_of m = c.rebuild-answer.ensures.plan.0 c.requires.lawful in
+    let pixels = own_pixels_few c.args.plan (shape_of m) c.requires.own in
     let new = c.rebuild-answer.new in
     let n = c.pixels.result in
     let after = tables new.picture new.marks new.sums new.counts new.queue in
     let before = tables c.args.picture.now (replicate 4096 0) c.args.sums.now (replicate 8192 0) (replicate 8192 0) in
     let clear : before ≡ clear_tables K = rw (c.requires.picture, c.requires.sums) refl in
+    let own : shape new.plan ≡ shape_of m = c.rebuild-answer.ensures.plan.0 (ready K C m c.requires.lawful pixels c.requires.few before clear) in
     let few : pixels_of (shape_of m) ≤ length new.picture =
-    let size = new.plan.size in
-    let l = pixels_few size.columns size.rows (shape_of m) size.few_columns size.few_rows (ap (λ s. s.P) own) (ap (λ s. s.Q) own) in
     let long : length new.picture ≡ 4096 = c.rebuild-answer.auto.picture ∙ ap length c.requires.picture ∙ length-replicate 4096 K.zero in
-    omega (arith, l, long) in
+    omega (arith, pixels, long) in
     c.write_ghost.ensures.text
     ∙ ap (λ s. listing s.P s.Q (take n new.picture) (ghost_text K C s (take n new.picture)) c.args.out.now) own
     ∙ ghost_fills K C (shape_of m) n (c.pixels.ensures ∙ ap pixels_of own) new.picture few c.args.out.now
@@ -75,10 +73,8 @@ returns-in-Ok-clause-law g c =
     let K = g.S.Sample.Kind in
     let C = g.S.Sample.Coded in
     let m = g.S.Source.meaning c.args.source.now in
-    let own : shape c.rebuild-answer.new.plan ≡ shape_of m = c.rebuild-answer.ensures.plan.0 c.requires.lawful in
     let new = c.rebuild-answer.new in
-    let size = new.plan.size in
-    let few = pixels_few size.columns size.rows (shape_of m) size.few_columns size.few_rows (ap (λ s. s.P) own) (ap (λ s. s.Q) own) in
+    let few = own_pixels_few c.args.plan (shape_of m) c.requires.own in
     let after = tables new.picture new.marks new.sums new.counts new.queue in
     let before = tables c.args.picture.now (replicate 4096 0) c.args.sums.now (replicate 8192 0) (replicate 8192 0) in
     let clear : before ≡ clear_tables K = rw (c.requires.picture, c.requires.sums) refl in
@@ -89,10 +85,8 @@ returns-in-Ghost-clause-law g c =
     let K = g.S.Sample.Kind in
     let C = g.S.Sample.Coded in
     let m = g.S.Source.meaning c.args.source.now in
-    let own : shape c.rebuild-answer.new.plan ≡ shape_of m = c.rebuild-answer.ensures.plan.0 c.requires.lawful in
     let new = c.rebuild-answer.new in
-    let size = new.plan.size in
-    let few = pixels_few size.columns size.rows (shape_of m) size.few_columns size.few_rows (ap (λ s. s.P) own) (ap (λ s. s.Q) own) in
+    let few = own_pixels_few c.args.plan (shape_of m) c.requires.own in
     let after = tables new.picture new.marks new.sums new.counts new.queue in
     let before = tables c.args.picture.now (replicate 4096 0) c.args.sums.now (replicate 8192 0) (replicate 8192 0) in
     let clear : before ≡ clear_tables K = rw (c.requires.picture, c.requires.sums) refl in
@@ -103,10 +97,8 @@ returns-in_default-clause-law g c =
     let K = g.S.Sample.Kind in
     let C = g.S.Sample.Coded in
     let m = g.S.Source.meaning c.args.source.now in
-    let own : shape c.rebuild-answer.new.plan ≡ shape_of m = c.rebuild-answer.ensures.plan.0 c.requires.lawful in
     let new = c.rebuild-answer.new in
-    let size = new.plan.size in
-    let few = pixels_few size.columns size.rows (shape_of m) size.few_columns size.few_rows (ap (λ s. s.P) own) (ap (λ s. s.Q) own) in
+    let few = own_pixels_few c.args.plan (shape_of m) c.requires.own in
     let after = tables new.picture new.marks new.sums new.counts new.queue in
     let before = tables c.args.picture.now (replicate 4096 0) c.args.sums.now (replicate 8192 0) (replicate 8192 0) in
     let clear : before ≡ clear_tables K = rw (c.requires.picture, c.requires.sums) refl in

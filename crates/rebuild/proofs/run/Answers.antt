@@ -1,0 +1,31 @@
+use Rattle.std.proofs.Common.{◌≡◌, IfSome, take, ℕ, ◌<◌, ◌≤◌, List, length, Option, None, Some, sym, ap, ◌∙◌, subst, ⊎_elim, ltb, arith}
+use Rattle.std.proofs.lemmas.Bool.{cases_lt, cond-true, lt-ltb}
+use Rattle.std.proofs.lemmas.List.{length-take-le, take_all}
+use Rattle.std.proofs.lemmas.Result.{on_ok_weaker}
+use Rattle.std.specs.Io.KnownBytes.{Appends}
+use Rattle.format.specs.Listing.{refusal_text}
+use Rattle.bracket.specs.Kinds.{kind_named}
+use Rattle.answers.specs.Answers.{program_answer, answer_as}
+use Rattle.answers.specs.Tiles.{oversize}
+use Rattle.rebuild.proofs.run.Goals as goal
+
+-- too long an input has one answer
+over : (t : List ℕ) → 65536 < length t → program_answer t ≡ refusal_text oversize
+over t h = cond-true (ltb 65536 (length t)) (refusal_text oversize) (answer_as (kind_named t) t) (lt-ltb 65536 (length t) h)
+
+-- so that one byte more than may be is enough
+same : (input : List ℕ) → program_answer (take 65537 input) ≡ program_answer input
+same input = ⊎_elim
+    (λ (h : 65536 < length input). let l = length-take-le 65537 input (omega arith) in over (take 65537 input) (omega arith) ∙ sym (over input h))
+    (λ (h : length input ≤ 65536). ap program_answer (take_all 65537 input (omega arith)))
+    (cases_lt 65536 (length input))
+
+answered : (o : Option (List ℕ)) (t : List ℕ) (P : List ℕ → Type 0) → IfSome o (λ input. t ≡ take 65537 input) → P (program_answer t) → IfSome o (λ input. P (program_answer input))
+answered None t P e p = tt
+answered (Some input) t P e p = subst P (ap program_answer e ∙ same input) p
+
+pub returns : goal.returns
+returns g c =
+    on_ok_weaker c.write_answer.result
+    (λ h. answered (g.R.Read.remaining c.args.reader) c.deref.result.now (λ bs. Appends (g.W.Write.contents c.args.writer.now) (g.W.Write.contents c.write_answer.new.writer) bs) (subst (λ t. IfSome (g.R.Read.remaining c.args.reader) (λ input. t ≡ take 65537 input)) (sym c.deref.ensures.value) c.in_ok-text.ensures) h)
+    c.write_answer.ensures
