@@ -1,6 +1,6 @@
 use Rattle.std.proofs.Common.{◌≡◌, IfSome, take, ℕ, List, [], ◌++◌, Option, None, Some, ◌∙◌, subst}
 use Rattle.std.specs.Prelude.{option_map}
-use Rattle.rebuild.proofs.read_front.Goals as goal
+use Rattle.rebuild.proofs.streams.read_front.Goals as goal
 
 front_of : (o : Option (List ℕ)) (n : ℕ) (was ys : List ℕ) → n ≡ 65537 → was ≡ [] → IfSome (option_map (take n) o) (λ xs. ys ≡ was ++ xs) → IfSome o (λ input. ys ≡ take 65537 input)
 front_of None n was ys e f h = tt

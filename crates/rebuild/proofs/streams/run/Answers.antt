@@ -1,13 +1,14 @@
 use Rattle.std.proofs.Common.{◌≡◌, IfSome, take, ℕ, ◌<◌, ◌≤◌, List, length, Option, None, Some, sym, ap, ◌∙◌, subst, ⊎_elim, ltb, arith}
 use Rattle.std.proofs.lemmas.Bool.{cases_lt, cond-true, lt-ltb}
 use Rattle.std.proofs.lemmas.List.{length-take-le, take_all}
-use Rattle.std.proofs.lemmas.Result.{on_ok_weaker}
+use Rattle.std.proofs.lemmas.Result.{on_ok_weaker, on_err_weaker}
 use Rattle.std.specs.Io.KnownBytes.{Appends}
 use Rattle.format.specs.Listing.{refusal_text}
 use Rattle.bracket.specs.Kinds.{kind_named}
 use Rattle.answers.specs.Answers.{program_answer, answer_as}
 use Rattle.answers.specs.Tiles.{oversize}
-use Rattle.rebuild.proofs.run.Goals as goal
+use Rattle.rebuild.specs.Fronts.{AppendsFront}
+use Rattle.rebuild.proofs.streams.run.Goals as goal
 
 -- too long an input has one answer
 over : (t : List ℕ) → 65536 < length t → program_answer t ≡ refusal_text oversize
@@ -20,12 +21,18 @@ same input = ⊎_elim
     (λ (h : length input ≤ 65536). ap program_answer (take_all 65537 input (omega arith)))
     (cases_lt 65536 (length input))
 
+-- what holds of the answer to the bytes that were read holds of the answer to the whole input
 answered : (o : Option (List ℕ)) (t : List ℕ) (P : List ℕ → Type 0) → IfSome o (λ input. t ≡ take 65537 input) → P (program_answer t) → IfSome o (λ input. P (program_answer input))
 answered None t P e p = tt
 answered (Some input) t P e p = subst P (ap program_answer e ∙ same input) p
 
 pub returns : goal.returns
 returns g c =
-    on_ok_weaker c.write_answer.result
-    (λ h. answered (g.R.Read.remaining c.args.reader) c.deref.result.now (λ bs. Appends (g.W.Write.contents c.args.writer.now) (g.W.Write.contents c.write_answer.new.writer) bs) (subst (λ t. IfSome (g.R.Read.remaining c.args.reader) (λ input. t ≡ take 65537 input)) (sym c.deref.ensures.value) c.in_ok-text.ensures) h)
-    c.write_answer.ensures
+    let input = g.R.Read.remaining c.args.reader in
+    let old = g.W.Write.contents c.args.writer.now in
+    let new = g.W.Write.contents c.write_answer.new.writer in
+    let front = subst (λ t. IfSome input (λ bs. t ≡ take 65537 bs)) (sym c.deref.ensures.value) c.in_ok-text.ensures in
+    record {
+      written = on_ok_weaker c.write_answer.result (λ h. answered input c.deref.result.now (Appends old new) front h) c.write_answer.ensures.written;
+      failed = on_err_weaker c.write_answer.result (λ h. answered input c.deref.result.now (AppendsFront old new) front h) c.write_answer.ensures.failed;
+    }
