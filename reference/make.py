@@ -8,6 +8,9 @@
     python3 reference/make.py answer SET       answers the lines of standard input
     python3 reference/make.py try COMMAND ..   runs a command on every case of `program`, one
                                                run a case; exit status 1 on a difference
+    python3 reference/make.py cases FOLDER     writes every case of `program` and every file of
+                                               examples/ into FOLDER, NAME its input and
+                                               NAME.stdout what is printed of it
 
 SET is one of project, strip, ghost, format, schedule, program.  A vector is two files: `stdin`
 has one case a line, which begins with the name of its set, and `stdout` the answer to each, line
@@ -1301,6 +1304,16 @@ def command_try(command):
     return status
 
 
+def command_cases(folder):
+    inputs = [("program-%04d" % i, data) for i, data in enumerate(program_inputs())]
+    for name, data in inputs + [("example-" + name, data) for name, data in examples()]:
+        with open(os.path.join(folder, name), "wb") as case:
+            case.write(data)
+        with open(os.path.join(folder, name + ".stdout"), "wb") as wanted:
+            wanted.write(m.program(data))
+    return 0
+
+
 def main(arguments):
     if arguments == ["write"]:
         return command_write()
@@ -1310,6 +1323,8 @@ def main(arguments):
         return command_answer(arguments[1])
     if len(arguments) >= 2 and arguments[0] == "try":
         return command_try(arguments[1:])
+    if len(arguments) == 2 and arguments[0] == "cases":
+        return command_cases(arguments[1])
     print(__doc__)
     return 2
 
