@@ -1,6 +1,8 @@
 // Sizes of tiles, with their pixels and bins.
-ghost use Rattle.std.specs.Prelude.{◌≡◌, ◌*◌, IfOk};
+ghost use Rattle.std.specs.Prelude.{◌≡◌, ◌*◌, ◌≤◌, true, IfOk};
 ghost use Rattle.mojette.specs.Bins.{bins};
+ghost use Rattle.mojette.specs.Bounds.{most_bins};
+ghost use Rattle.mojette.specs.Directions.{lawful};
 ghost use Rattle.mojette.specs.Faults.{refused};
 ghost use Rattle.mojette.specs.Meaning.{side_ok, sides_verdict};
 
@@ -38,7 +40,8 @@ impl Size {
 
     // B, the number of bins of a direction.
     pub fn bins(self, direction: Direction) -> usize
-        ensures { result ≡ bins self.columns self.rows direction }
+        ensures value { result ≡ bins self.columns self.rows direction }
+        ensures few { lawful direction ≡ true → result ≤ most_bins }
     {
         let across = direction.p.unsigned_abs() as usize;
         let down = direction.q.unsigned_abs() as usize;
