@@ -4,8 +4,8 @@ ghost use Rattle.std.specs.Prelude.{◌≡◌, ℕ, ◌<◌, slice_index_or};
 ghost use Rattle.source.specs.Questions.{no_record};
 ghost use Rattle.exported.specs.Places.{record_of};
 
-use crate::words::{MOST_BINS, MOST_PIXELS, ZERO, numbers_of, record_at, words_of};
-use mojette::{MOST_PLACES, Record};
+use crate::words::{ZERO, numbers_of, record_at, words_of};
+use mojette::{MOST_PIXELS, MOST_PLACES, MOST_POSITIONS, Record};
 use plan::Plan;
 use runs::rebuild::rebuild;
 use source::Rack;
@@ -37,12 +37,12 @@ pub extern "C" fn exported_rebuild(
     times: u32,
 ) -> usize {
     let records = records_of(p, q, causes);
-    let mut run = [ZERO; MOST_BINS];
+    let mut run = [ZERO; MOST_POSITIONS];
     words_of(sums, &mut run);
     let records = &records[..p.len().min(MOST_PLACES)];
-    let run = &run[..sums.len().min(MOST_BINS)];
+    let run = &run[..sums.len().min(MOST_POSITIONS)];
     let mut cells = [ZERO; MOST_PIXELS];
-    let mut lent = [ZERO; MOST_BINS];
+    let mut lent = [ZERO; MOST_POSITIONS];
     let mut pixels = 0;
     for _ in 0..times {
         let Ok(rack) = Rack::new(columns, rows, records, run) else {

@@ -12,7 +12,7 @@ use Rattle.plan.specs.declared.plan.Plan.{Plan}
 use Rattle.plan.specs.Criteria.{whole_of}
 use Rattle.plan.specs.Laid.{direction_of, record_of, records_of, no_place, place_at}
 use Rattle.plan.specs.Shapes.{shape, places_of}
-use Rattle.plan.proofs.Cells.{steps_most}
+use Rattle.mojette.proofs.Bounds.{steps_most}
 use Rattle.plan.proofs.Lawful.{lawful_directions}
 
 pub left_most : (p : ℤ) → left p ≤ nat_abs p

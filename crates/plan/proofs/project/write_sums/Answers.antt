@@ -6,7 +6,8 @@ use Rattle.mojette.specs.Bins.{bins}
 use Rattle.plan.specs.Laid.{direction_of}
 use Rattle.plan.specs.Sums.{SumUpTo}
 use Rattle.plan.proofs.Adding.{none_added, all_added}
-use Rattle.plan.proofs.Cells.{laid_direction, steps_most}
+use Rattle.mojette.proofs.Bounds.{steps_most}
+use Rattle.plan.proofs.Cells.{laid_direction}
 use Rattle.plan.proofs.project.write_sums.Goals as goal
 
 pub add_up_by_step-requires : goal.add_up_by_step-requires
