@@ -1,6 +1,7 @@
 // Rebuilding a tile from a rack.
 
 ghost use Rattle.std.specs.Prelude.{◌≡◌, ℕ, ◌<◌, slice_index_or};
+ghost use Rattle.mojette.specs.Bounds.{most_places};
 ghost use Rattle.source.specs.Questions.{no_record};
 ghost use Rattle.exported.specs.Places.{record_of};
 
@@ -12,7 +13,7 @@ use source::Rack;
 
 // The records of the places, by their numbers.
 fn records_of(p: &[i32], q: &[i32], causes: &[u8]) -> [Record; MOST_PLACES]
-    ensures { (i : ℕ) → i < 16 → slice_index_or result i no_record ≡ record_of p.now q.now causes.now i }
+    ensures { (i : ℕ) → i < most_places → slice_index_or result i no_record ≡ record_of p.now q.now causes.now i }
 {
     let mut records = [Record::new(0, 0, 0); MOST_PLACES];
     for (i, entry) in records.iter_mut().enumerate() {

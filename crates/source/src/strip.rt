@@ -3,7 +3,7 @@ ghost use Rattle.std.specs.Prelude.{◌≡◌, ℕ, ◌*◌, ◌<◌, ◌≤◌,
 ghost use Rattle.std.specs.List.{range_with_len};
 ghost use Rattle.samples.specs.Words.{sum_zero};
 ghost use Rattle.mojette.specs.Bins.{bins as bin_number, whole};
-ghost use Rattle.mojette.specs.Bounds.{most_bins};
+ghost use Rattle.mojette.specs.Bounds.{most_side, most_bins};
 ghost use Rattle.mojette.specs.Directions.{lawful};
 ghost use Rattle.mojette.specs.Faults.{outcome};
 ghost use Rattle.source.specs.Questions.{place_at, bins_at};
@@ -23,6 +23,7 @@ fn count_pixels(size: Size, direction: Direction, ones: &[SumWord], counts: &mut
     requires room { (size.columns * size.rows ≤ length ones.now) × (bin_number size.columns size.rows direction ≤ length counts.old) }
     ensures bins { result ≡ bin_number size.columns size.rows direction }
     ensures counts { (b : ℕ) → b < bin_number size.columns size.rows direction → (slice_index_or counts.new b sum_zero).value ≡ pixels_in size.columns size.rows direction b }
+    ensures few { (b : ℕ) → b < bin_number size.columns size.rows direction → (slice_index_or counts.new b sum_zero).value ≤ most_side }
 {
     let Ok(bins) = project(size.columns, size.rows, direction, ones, counts) else {
         unreachable()
