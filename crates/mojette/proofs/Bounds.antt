@@ -9,7 +9,6 @@ use Rattle.mojette.specs.declared.direction.Record.{Record}
 use Rattle.mojette.specs.Bins.{bins, all_bins}
 use Rattle.mojette.specs.Bounds.{most_side, most_step, most_bins, OneTo}
 use Rattle.mojette.specs.Directions.{gcd, lawful, all_lawful}
-use Rattle.mojette.specs.Meaning.{side_ok}
 use Rattle.mojette.proofs.Euclid.{euclid}
 
 pub within : (bound n : ℕ) → (leb 1 n && leb n bound) ≡ true → OneTo bound n

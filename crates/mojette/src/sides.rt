@@ -52,6 +52,7 @@ impl Size {
 #[cfg(test)]
 mod tests {
     use super::*;
+    use crate::order::MOST_BINS;
 
     #[test]
     fn sizes_at_the_bounds(rt: HostRuntime) {
@@ -74,6 +75,17 @@ mod tests {
         for (p, q, wanted) in BINS {
             let bins = Size::of(3, 2).map(|size| size.bins(Direction { p, q }));
             assert!(rt; bins == Ok(wanted));
+        }
+    }
+
+    // The bound is no larger than it has to be.
+    #[test]
+    fn the_most_bins_are_reached(rt: HostRuntime) {
+        for (p, q) in [(7, 6), (6, 7), (-7, 6), (-6, 7)] {
+            let direction = Direction { p, q };
+            assert!(rt; direction.is_lawful());
+            let bins = Size::of(64, 64).map(|size| size.bins(direction));
+            assert!(rt; bins == Ok(MOST_BINS));
         }
     }
 }

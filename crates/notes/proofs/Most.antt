@@ -1,5 +1,5 @@
 -- What a plan has at most.
-use Rattle.std.proofs.Common.{◌*◌, ◌≤◌, arith}
+use Rattle.std.proofs.Common.{◌≤◌, arith}
 use Rattle.std.proofs.lemmas.Nat.{mul-le}
 use Rattle.mojette.specs.Bounds.{most_side, most_pixels, most_positions}
 use Rattle.mojette.specs.Meaning.{pixels_of, bins_of}

@@ -17,7 +17,10 @@ fn told(cause: u8, at: usize) -> (usize, usize) {
     match Plan::of(2, 2, &records) {
         Ok(plan) => {
             note_bins(&plan, &mut notes);
-            (notes[at % MOST_POSITIONS].pixels(), notes[at % MOST_POSITIONS].cell())
+            (
+                notes[at % MOST_POSITIONS].pixels(),
+                notes[at % MOST_POSITIONS].cell(),
+            )
         }
         Err(_) => (0, 99),
     }

@@ -1,6 +1,6 @@
 -- Sum words and XOR words as groups.
 use Rattle.std.specs.Prelude.{◌≡◌, ℕ, ◌+◌, ◌-◌, ◌%◌, ◌^◌, ◌<◌, Bool, ◌==◌, bit_xor, refl}
-use Rattle.std.proofs.Common.{sym, ap, ◌∙◌, mod-lt, arith, lit<}
+use Rattle.std.proofs.Common.{ap, mod-lt, arith, lit<}
 use mathlib.Core.HLevel.{is_prop→PathP}
 use Rattle.std.proofs.Math.Bridge.{le_prop}
 use Rattle.std.specs.Int.Bits.{xor_assoc, xor_zero_r, xor_self}

@@ -37,7 +37,10 @@ module _ (P Q : ℕ) (d : Direction) (picture : List SumWord) where
       pixels_counted ones b h =
           let inside : b < length (projection sum_words P Q picture d) = subst (λ k. b < k) (sym (length-map-range_with_len (bin_sum sum_words P Q picture d) 0 (bins P Q d))) h in
           let ten : TenBits P Q d picture = record {
-            columns = (side_most P p).1; rows = (side_most Q q).1; direction = l; samples = λ c k. omega (arith, ones c k);
+            columns = (side_most P p).1;
+            rows = (side_most Q q).1;
+            direction = l;
+            samples = λ c k. omega (arith, ones c k);
           } in
           ap (λ x. (get_or x.sums b sum_zero).value) (e ∙ served_all)
           ∙ ap (λ w. w.value) (get_or_append_left (projection sum_words P Q picture d) (drop (bins P Q d) sums) sum_zero b inside

@@ -26,7 +26,7 @@ counting_refused s counts = cond (too_short s counts) (Some (refusal 5 4 0 0)) N
 abbrev pub counts_after : Shape → List ℕ → List ℕ
 counts_after s counts = cond (too_short s counts) counts (counted s counts)
 
--- The count of each bin is at most the number of pixels of a row, or of a column.
+-- The count of each bin is at most a side: a bin has one pixel of each row at most, or those of one row.
 abbrev pub FewPixels : Shape → List ℕ → Type 0
 FewPixels s counts = (b : ℕ) → b < bins_of s → slice_index counts b ≤ most_side
 
