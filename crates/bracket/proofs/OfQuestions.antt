@@ -1,5 +1,5 @@
 -- What a file answers is what its meaning answers.
-use Rattle.std.proofs.Common.{◌≡◌, ℕ, zero, suc, ◌+◌, ◌*◌, ◌<◌, ◌≤◌, min, true, false, cond, ltb, List, [], ◌∷◌, map, length, get_or, slice_get, take, drop, nat_abs, ◌-◌, is_some, Some, None, Option, unwrap_or, sym, refl, ap, ◌∙◌, ⊎_elim, arith}
+use Rattle.std.proofs.Common.{◌≡◌, ℕ, zero, suc, ◌+◌, ◌*◌, ◌<◌, ◌≤◌, min, true, false, cond, ltb, List, [], ◌∷◌, map, length, get_or, slice_get, take, drop, ◌-◌, is_some, Some, None, Option, unwrap_or, sym, refl, ap, ◌∙◌, ⊎_elim, arith}
 use Rattle.std.proofs.lemmas.List.FromFn.{get_or-map-range_with_len}
 use Rattle.std.proofs.lemmas.List.{length-map, get_or-map, drop_all, drop-drop}
 use Rattle.std.proofs.lemmas.Nat.{mul-le}
@@ -12,11 +12,12 @@ use Rattle.mojette.specs.declared.direction.Direction.{Direction}
 use Rattle.mojette.specs.declared.direction.Record.{Record}
 use Rattle.mojette.specs.declared.size.Size.{Size}
 use Rattle.mojette.specs.Bins.{bins, whole}
+use Rattle.mojette.specs.Bounds.{most_bins}
 use Rattle.mojette.specs.Directions.{lawful}
 use Rattle.mojette.specs.Faults.{Outcome, served, refuses}
 use Rattle.mojette.specs.Meaning.{Place, Meaning, verdict}
 use Rattle.mojette.specs.Refusals.{refusal}
-use Rattle.format.proofs.OfWords.{steps_bound}
+use Rattle.mojette.proofs.Bounds.{bins_most}
 use Rattle.format.proofs.OfPlaces.{Steps, lawful_parts}
 use Rattle.source.specs.Questions.{no_place, asked_place, asked_bin}
 use Rattle.bracket.specs.declared.line.Held.{Held}
@@ -120,15 +121,14 @@ steps_at last (e ∷ es) (suc i) d s h = steps_at (Some e.direction) es i d s.2 
 -- the bins of a line in a lawful layout
 pub few_bins :
     (z : Size) (lines : List Line) (i : ℕ) (x : Line) → slice_get lines i ≡ Some x → is_some (verdict (shape_from z lines)) ≡ false
-    → bins z.columns z.rows x.direction ≤ 883
+    → bins z.columns z.rows x.direction ≤ most_bins
 few_bins z lines i x at l =
     let h = slice_get_within lines i x at in
     let p = lawful_parts (shape_from z lines) (none_from _ l) in
     let k : i < length (map record_of lines) = omega (arith, length-map lines record_of) in
     let law = ap (λ e. lawful e.direction) (sym (get_or-map record_of lines i x (record_of x) h ∙ ap record_of (get_or_from_slice_get lines i x x at))) ∙ steps_at None (map record_of lines) i (record_of x) p.each k in
-    let near = steps_bound x.direction law in
-    omega (arith, z.few_columns, z.few_rows, mul-le (z.columns - 1) (nat_abs x.direction.q) 63 7 (omega (arith, z.few_columns)) near.1, mul-le (z.rows - 1) (nat_abs x.direction.p) 63 7 (omega (arith, z.few_rows)) near.0)
+    bins_most x.direction law z.columns z.rows z.few_columns z.few_rows
 
--- where the code of a bin stands in the codes of its place
-pub few_bytes : (b count digits width : ℕ) → b < count → count ≤ 883 → digits ≡ width → width ≤ 12 → b * (digits + 1) ≤ 11479
-few_bytes b count digits width h l e w = mul-le b (digits + 1) 883 13 (omega arith) (omega arith)
+-- where the code of a bin stands in the codes of its place, each of 12 digits at most and a space
+pub few_bytes : (b count digits width : ℕ) → b < count → count ≤ most_bins → digits ≡ width → width ≤ 12 → b * (digits + 1) ≤ most_bins * 13
+few_bytes b count digits width h l e w = mul-le b (digits + 1) most_bins 13 (omega arith) (omega arith)

@@ -1,6 +1,7 @@
 // Projecting a picture along many directions.
 
-use crate::words::{MOST_BINS, MOST_PIXELS, ZERO, numbers_of, record_at, words_of};
+use crate::words::{ZERO, numbers_of, record_at, words_of};
+use mojette::{MOST_PIXELS, MOST_POSITIONS};
 use plan::project::project;
 use samples::SumWord;
 
@@ -38,7 +39,7 @@ pub extern "C" fn exported_project(
 ) -> usize {
     let mut cells = [ZERO; MOST_PIXELS];
     words_of(picture, &mut cells);
-    let mut run = [ZERO; MOST_BINS];
+    let mut run = [ZERO; MOST_POSITIONS];
     let mut bins = 0;
     for _ in 0..times {
         bins = project_all(columns, rows, p, q, &cells, &mut run);

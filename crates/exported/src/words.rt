@@ -4,13 +4,8 @@ ghost use Rattle.std.specs.Prelude.{◌≡◌, ℕ, ◌<◌, length, slice_index
 ghost use Rattle.samples.specs.Words.{sum_zero};
 ghost use Rattle.exported.specs.Places.{record_of};
 
-use mojette::{Direction, MOST_PLACES, MOST_SIDE, MOST_STEP, Record};
+use mojette::{Direction, Record};
 use samples::SumWord;
-
-// The most pixels of a tile, and room for the bins of any plan.
-pub(crate) const MOST_PIXELS: usize = MOST_SIDE * MOST_SIDE;
-
-pub(crate) const MOST_BINS: usize = MOST_PLACES * (2 * (MOST_SIDE - 1) * (MOST_STEP as usize) + 1);
 
 pub(crate) const ZERO: SumWord = SumWord { value: 0 };
 

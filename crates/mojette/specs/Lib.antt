@@ -6,3 +6,4 @@ pub mod Ghosts
 pub mod Refusals
 pub mod Faults
 pub mod Meaning
+pub mod TenBits

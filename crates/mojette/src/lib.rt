@@ -11,6 +11,6 @@ pub mod size;
 
 pub use direction::{Direction, Record};
 pub use fault::{Fault, FileFault, Reason, Refusal, Table, TextFault};
-pub use order::{MOST_PLACES, MOST_SIDE, MOST_STEP};
+pub use order::{MOST_BINS, MOST_PIXELS, MOST_PLACES, MOST_POSITIONS, MOST_SIDE, MOST_STEP};
 pub use sides::is_side;
 pub use size::Size;

@@ -1,6 +1,6 @@
 // Which directions are lawful, and their order.
 ghost use Rattle.std.specs.Prelude.{◌≡◌};
-ghost use Rattle.mojette.specs.Bounds.{most_side, most_places, most_step};
+ghost use Rattle.mojette.specs.Bounds.{most_side, most_pixels, most_places, most_step, most_bins, most_positions};
 ghost use Rattle.mojette.specs.Directions.{gcd as gcd_of, Euclid, level_right, lawful, before};
 ghost use Rattle.mojette.specs.Meaning.{follows};
 
@@ -8,16 +8,33 @@ use crate::direction::Direction;
 
 // The most columns, and the most rows, of a tile.
 pub const MOST_SIDE: usize = 64;
+// The most pixels of a tile.
+pub const MOST_PIXELS: usize = MOST_SIDE * MOST_SIDE;
 // The most places of a plan.
 pub const MOST_PLACES: usize = 16;
 // The most of |p|, and of q.
 pub const MOST_STEP: u32 = 7;
 
-// The bounds that the code has are those of the definitions. Three numbers in a row, since nothing takes them but this promise.
-pub fn bounds() -> (usize, usize, u32)
-    ensures { (result.0 ≡ most_side) × ((result.1 ≡ most_places) × (result.2 ≡ most_step)) }
+// The most bins of a direction: no lawful one has the most of both |p| and q.
+pub const MOST_BINS: usize = (MOST_SIDE - 1) * (2 * MOST_STEP as usize - 1) + 1;
+// The most positions of a tile: the bins of all places of its plan.
+pub const MOST_POSITIONS: usize = MOST_PLACES * MOST_BINS;
+
+// The bounds that the code has are those of the definitions. Six numbers in a row, since nothing takes them but this promise.
+pub fn bounds() -> (usize, usize, u32, usize, usize, usize)
+    ensures given { (result.0 ≡ most_side) × ((result.1 ≡ most_places) × (result.2 ≡ most_step)) }
+    ensures pixels { result.3 ≡ most_pixels }
+    ensures bins { result.4 ≡ most_bins }
+    ensures positions { result.5 ≡ most_positions }
 {
-    (MOST_SIDE, MOST_PLACES, MOST_STEP)
+    (
+        MOST_SIDE,
+        MOST_PLACES,
+        MOST_STEP,
+        MOST_PIXELS,
+        MOST_BINS,
+        MOST_POSITIONS,
+    )
 }
 
 // The greatest common divisor, by Euclid's rule.

@@ -1,6 +1,8 @@
 // Sizes of tiles, with their pixels and bins.
-ghost use Rattle.std.specs.Prelude.{◌≡◌, ◌*◌, IfOk};
+ghost use Rattle.std.specs.Prelude.{◌≡◌, ◌*◌, ◌≤◌, true, IfOk};
 ghost use Rattle.mojette.specs.Bins.{bins};
+ghost use Rattle.mojette.specs.Bounds.{most_bins};
+ghost use Rattle.mojette.specs.Directions.{lawful};
 ghost use Rattle.mojette.specs.Faults.{refused};
 ghost use Rattle.mojette.specs.Meaning.{side_ok, sides_verdict};
 
@@ -38,7 +40,8 @@ impl Size {
 
     // B, the number of bins of a direction.
     pub fn bins(self, direction: Direction) -> usize
-        ensures { result ≡ bins self.columns self.rows direction }
+        ensures value { result ≡ bins self.columns self.rows direction }
+        ensures few { lawful direction ≡ true → result ≤ most_bins }
     {
         let across = direction.p.unsigned_abs() as usize;
         let down = direction.q.unsigned_abs() as usize;
@@ -49,6 +52,7 @@ impl Size {
 #[cfg(test)]
 mod tests {
     use super::*;
+    use crate::order::MOST_BINS;
 
     #[test]
     fn sizes_at_the_bounds(rt: HostRuntime) {
@@ -71,6 +75,17 @@ mod tests {
         for (p, q, wanted) in BINS {
             let bins = Size::of(3, 2).map(|size| size.bins(Direction { p, q }));
             assert!(rt; bins == Ok(wanted));
+        }
+    }
+
+    // The bound is no larger than it has to be.
+    #[test]
+    fn the_most_bins_are_reached(rt: HostRuntime) {
+        for (p, q) in [(7, 6), (6, 7), (-7, 6), (-6, 7)] {
+            let direction = Direction { p, q };
+            assert!(rt; direction.is_lawful());
+            let bins = Size::of(64, 64).map(|size| size.bins(direction));
+            assert!(rt; bins == Ok(MOST_BINS));
         }
     }
 }

@@ -3,6 +3,7 @@ use Rattle.std.proofs.Common.{◌≡◌, ℕ, zero, suc, ◌+◌, ◌-◌, ◌%�
 use Rattle.std.proofs.lemmas.Bool.{cases_eq}
 use Rattle.samples.specs.Sums.{sum_below}
 use Rattle.samples.proofs.Sums.{sum_zero}
+use Rattle.mojette.specs.Bounds.{most_pixels}
 use Rattle.peeling.specs.Counting.{one_if, tally, number}
 use Rattle.peeling.proofs.Counts.{number_le, number_none, number_some, one_if_no}
 use Rattle.notes.specs.declared.note.Note.{Note}
@@ -20,14 +21,14 @@ pixels_less x u n e l one = let f = u.fits in omega arith
 pub pixels_of_cell : (c : ℕ) → pixels_noted (note_of_cell c) ≡ 1
 pixels_of_cell c = omega arith
 
-pub cell_of_cell : (c : ℕ) → c < 4096 → cell_noted (note_of_cell c) ≡ c
+pub cell_of_cell : (c : ℕ) → c < most_pixels → cell_noted (note_of_cell c) ≡ c
 cell_of_cell c l = omega arith
 
-one_more : (x : Note) (n : ℕ) → pixels_noted x ≡ n → n < 4096 → (c : ℕ) (b : Bool) → pixels_noted (note_plus x (cond b (note_of_cell c) note_zero)) ≡ n + one_if b
+one_more : (x : Note) (n : ℕ) → pixels_noted x ≡ n → n < most_pixels → (c : ℕ) (b : Bool) → pixels_noted (note_plus x (cond b (note_of_cell c) note_zero)) ≡ n + one_if b
 one_more x n e l c true = omega arith
 one_more x n e l c false = omega arith
 
-pub pixels_sum : (n : ℕ) (p : ℕ → Bool) → n ≤ 4096 → pixels_noted (sum_below notes n (λ c. cond (p c) (note_of_cell c) note_zero)) ≡ number n p
+pub pixels_sum : (n : ℕ) (p : ℕ → Bool) → n ≤ most_pixels → pixels_noted (sum_below notes n (λ c. cond (p c) (note_of_cell c) note_zero)) ≡ number n p
 unfolding sum_below number tally
 pixels_sum zero p l = refl
 pixels_sum (suc n) p l =

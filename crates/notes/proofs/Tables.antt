@@ -8,6 +8,7 @@ use Rattle.std.proofs.lemmas.List.FromFn.{get_or-map-range_with_len, length-map-
 use Rattle.samples.proofs.Sums.{sum_same, sum_zero}
 use Rattle.mojette.specs.declared.direction.Direction.{Direction}
 use Rattle.mojette.specs.Bins.{bins, in_bin, whole, start}
+use Rattle.mojette.specs.Bounds.{most_side, most_pixels, most_step}
 use Rattle.mojette.specs.Directions.{lawful}
 use Rattle.mojette.specs.Meaning.{Shape, side_ok, pixels_of}
 use Rattle.mojette.specs.Transform.{bin_sum, projection}
@@ -18,7 +19,8 @@ use Rattle.plan.specs.Laid.{direction_of, record_of, records_of}
 use Rattle.plan.specs.Laid.{place_at as nth}
 use Rattle.plan.specs.Projecting.{Projected, projecting}
 use Rattle.plan.specs.Shapes.{shape, places_of}
-use Rattle.plan.proofs.Cells.{size_of, steps_most}
+use Rattle.mojette.proofs.Bounds.{steps_most}
+use Rattle.plan.proofs.Cells.{size_of}
 use Rattle.walk.proofs.Laying.{bins_are, start_is, next_is, lies_is}
 use Rattle.notes.specs.declared.note.Note.{Note}
 use Rattle.notes.specs.Words.{note_zero}
@@ -42,8 +44,8 @@ module _ (size : Size) (x : Place) where
   abbrev Q : ℕ
   Q = size.rows
 
-  pixels_most : P * Q ≤ 4096
-  pixels_most = omega (arith, mul-le P Q 64 64 size.few_columns size.few_rows)
+  pixels_most : P * Q ≤ most_pixels
+  pixels_most = omega (arith, mul-le P Q most_side most_side size.few_columns size.few_rows)
 
   -- a whole place
   pub place_noted :
@@ -94,8 +96,8 @@ module _ (xs ys : List Note) (from n : ℕ) (room : from + n ≤ length xs) (lon
           let e : from + (b - from) ≡ b = omega arith in
           subst (λ m. get_or new m note_zero ≡ note_of_bin s m) e (part_at (b - from) (omega arith) ∙ here (b - from) (omega arith))
 
-pub steps_of : (x : Place) → lawful (direction_of x) ≡ true → (x.slope ≤ 7) × (x.q ≤ 7)
-steps_of x law = let few = steps_most (direction_of x) law in (subst (λ n. n ≤ 7) (size_of x.leftward x.slope) few.0, few.1)
+pub steps_of : (x : Place) → lawful (direction_of x) ≡ true → (x.slope ≤ most_step) × (x.q ≤ most_step)
+steps_of x law = let few = steps_most (direction_of x) law in (subst (λ n. n ≤ most_step) (size_of x.leftward x.slope) few.0, few.1)
 
 -- what the code holds of place i of a plan
 module _ (plan : Plan) (i : ℕ) (l : i < length (places_of plan)) (size : Size) (x : Place)

@@ -5,6 +5,7 @@ use Rattle.std.proofs.lemmas.List.{get_or-set_same, get_or-set_other, length-set
 use Rattle.std.proofs.Math.Nat.{mod-lt}
 use Rattle.std.proofs.lemmas.Nat.{div-add-mod'}
 use Rattle.samples.proofs.Sums.{sum_same}
+use Rattle.mojette.specs.Bounds.{most_side}
 use Rattle.mojette.specs.Meaning.{Shape, pixels_of, bins_of}
 use Rattle.katz.proofs.Pixels.{row_below}
 use Rattle.peeling.specs.Counting.{one_if, tally, number, least}
@@ -199,6 +200,6 @@ module _ (plan : Plan) where
   pub all_told : (xs : List Note) → Noted (shape plan) (all_missing (shape plan)) xs → (counts : List ℕ) → counts_told (shape plan) xs counts ≡ counted (shape plan) counts
   all_told xs known counts = filled_same (bins_of s) _ _ counts (λ b l. ap pixels_noted (known b l) ∙ number_told (λ c. (incidence s).lies c b))
 
-  pub few_told : (marks : List ℕ) (xs : List Note) → Noted (shape plan) (by_marks (shape plan) marks) xs → (b : ℕ) → b < bins_of (shape plan) → pixels_noted (get_or xs b note_zero) < 256
+  pub few_told : (marks : List ℕ) (xs : List Note) → Noted (shape plan) (by_marks (shape plan) marks) xs → (b : ℕ) → b < bins_of (shape plan) → pixels_noted (get_or xs b note_zero) ≤ most_side
   few_told marks xs known b l =
       omega (arith, ap pixels_noted (known b l), number_told (missing_at s marks b), number_part (pixels_of s) (λ c. (incidence s).lies c b) (λ c. eqb (get_or marks c 0) 0), few_in_bin plan b l)

@@ -2,7 +2,7 @@
 use Rattle.std.specs.Prelude.{◌≡◌, ℕ, ◌*◌, ◌<◌, ◌≤◌, cond, ◌&&◌, List, length, slice_index_or}
 use Rattle.samples.specs.Sums.{sum_below}
 use Rattle.mojette.specs.Bins.{in_bin, whole}
-use Rattle.mojette.specs.Bounds.{most_side}
+use Rattle.mojette.specs.Bounds.{most_pixels}
 use Rattle.plan.specs.declared.places.Place.{Place}
 use Rattle.plan.specs.Laid.{direction_of, record_of}
 use Rattle.notes.specs.declared.note.Note.{Note}
@@ -11,8 +11,8 @@ use Rattle.notes.specs.Notes.{notes, note_of_cell}
 
 -- A tile of the most cells, each with its own note as its sample.
 pub record Numbered (tile : List Note) : Type 0 where
-  pub long : most_side * most_side ≤ length tile
-  pub each : (c : ℕ) → c < most_side * most_side → slice_index_or tile c note_zero ≡ note_of_cell c
+  pub long : most_pixels ≤ length tile
+  pub each : (c : ℕ) → c < most_pixels → slice_index_or tile c note_zero ≡ note_of_cell c
 
 -- the note of bin b of a place, if it is whole
 abbrev pub note_of_place : ℕ → ℕ → Place → ℕ → Note

@@ -1,11 +1,10 @@
 -- Notes as a group.
 use Rattle.std.specs.Prelude.{◌≡◌, ℕ, ◌+◌, ◌-◌, ◌%◌, ◌^◌, ◌<◌, Bool, ◌==◌, refl}
-use Rattle.std.proofs.Common.{sym, ap, ◌∙◌, mod-lt, arith, lit<}
+use Rattle.std.proofs.Common.{mod-lt, lit<}
 use mathlib.Core.HLevel.{is_prop→PathP}
-use Rattle.std.proofs.Math.Nat.{mod-add-mod, add-mod-mod}
 use Rattle.std.proofs.Math.Bridge.{le_prop}
-use Rattle.std.proofs.lemmas.Bool.{eqb-true, eq-eqb}
 use Rattle.samples.specs.Group.{Group}
+use Rattle.samples.specs.Modular.{Words as Modular, modular_laws}
 use Rattle.notes.specs.declared.note.Note.{Note}
 
 -- the note of a number
@@ -31,13 +30,9 @@ note_same x y e = λ i. record { value = e i; fits = is_prop→PathP (λ j. e j 
 abbrev pub note_equal : Note → Note → Bool
 note_equal x y = x.value == y.value
 
+-- modulo 2^32
+note_modular : Modular 32 (λ (x : Note). x.value) note_of
+note_modular = record { some_bits = lit< tt; fits = λ x. x.fits; value-of = λ n. refl; same = note_same }
+
 pub note_laws : Group note_plus note_inverse note_zero note_spark note_equal
-note_laws = record {
-  assoc = λ x y z. note_same _ _ (mod-add-mod (x.value + y.value) (2 ^ 32) z.value ∙ ap (λ n. n % 2 ^ 32) (omega arith) ∙ sym (add-mod-mod x.value (y.value + z.value) (2 ^ 32)));
-  comm = λ x y. note_same _ _ (ap (λ n. n % 2 ^ 32) (omega arith));
-  neutral = λ x. note_same _ _ (let f = x.fits in omega arith);
-  cancel = λ x. note_same _ _ (let f = x.fits in omega arith);
-  apart = λ e. let v : 1 ≡ 0 = ap (λ w. w.value) e in omega arith;
-  equal_same = λ x y e. note_same x y (eqb-true x.value y.value e);
-  equal_self = λ x. eq-eqb x.value x.value refl;
-}
+note_laws = modular_laws note_modular

@@ -12,7 +12,7 @@ pub mod tally;
 mod tests;
 
 pub use note::Note;
-pub use noting::{MOST_BINS, note_bins};
+pub use noting::note_bins;
 pub use table::Notes;
 pub use tallies::Counts;
 pub use tally::Tally;

@@ -12,15 +12,9 @@ ghost use Rattle.plan.specs.Laid.{direction_of};
 ghost use Rattle.plan.specs.Shapes.{shape};
 
 use crate::note::Note;
-use mojette::{Direction, MOST_PLACES, MOST_SIDE, MOST_STEP, Size};
+use mojette::{Direction, MOST_PIXELS, MOST_POSITIONS, Size};
 use plan::project::project;
 use plan::{Place, Plan};
-
-// The most pixels of a tile.
-const MOST_PIXELS: usize = MOST_SIDE * MOST_SIDE;
-
-// The most bins of a plan.
-pub const MOST_BINS: usize = MOST_PLACES * (2 * (MOST_SIDE - 1) * (MOST_STEP as usize) + 1);
 
 // The tile whose samples are the notes of its cells.
 fn numbered() -> [Note; MOST_PIXELS]
@@ -79,7 +73,7 @@ fn note_places(plan: &Plan, tile: &[Note], notes: &mut [Note])
 }
 
 // Sets each note to that of all the pixels of its bin, zero in lost places.
-pub fn note_bins(plan: &Plan, notes: &mut [Note; MOST_BINS])
+pub fn note_bins(plan: &Plan, notes: &mut [Note; MOST_POSITIONS])
     ensures { Noted (shape plan.now) (all_missing (shape plan.now)) notes.new }
 {
     note_places(plan, &numbered(), notes);

@@ -5,11 +5,13 @@ ghost use Rattle.plan.specs.Shapes.{shape};
 ghost use Rattle.notes.specs.Missing.{by_marks};
 ghost use Rattle.notes.specs.Notes.{Noted, counts_told};
 ghost use Rattle.notes.specs.Telling.{notes_in, noted_alike, told_long};
+ghost use Rattle.walk.specs.Counts.{FewPixels};
 
 use crate::note::Note;
-use crate::noting::{MOST_BINS, note_bins};
+use crate::noting::note_bins;
 use crate::table::Notes;
 use crate::tally::Tally;
+use mojette::MOST_POSITIONS;
 use plan::Plan;
 use samples::minus;
 use walk::{Pixel, count_pixels, lone_pixel};
@@ -89,7 +91,7 @@ impl Notes {
     // Notes of no bins yet.
     pub fn fresh() -> Notes {
         Notes {
-            notes: [Note { value: 0 }; MOST_BINS],
+            notes: [Note { value: 0 }; MOST_POSITIONS],
         }
     }
 
@@ -97,7 +99,8 @@ impl Notes {
     pub fn write_counts(&self, plan: &Plan, counts: &mut [u8])
         requires room { bins_of (shape plan.now) ≤ length counts.old }
         requires noted { (marks : List ℕ) × Noted (shape plan.now) (by_marks (shape plan.now) marks) (notes_in self.now) }
-        ensures { counts.new ≡ counts_told (shape plan.now) (notes_in self.now) counts.old }
+        ensures counts { counts.new ≡ counts_told (shape plan.now) (notes_in self.now) counts.old }
+        ensures few { FewPixels (shape plan.now) counts.new }
     {
         for (b, note) in self.notes[..plan.total()].iter().enumerate() {
             counts[b] = note.pixels() as u8;

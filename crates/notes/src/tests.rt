@@ -1,8 +1,8 @@
 // Notes of a tile of two by two pixels, by hand: cells 0 and 1 above, 2 and 3 below.
 
 use crate::note::Note;
-use crate::noting::{MOST_BINS, note_bins};
-use mojette::Record;
+use crate::noting::note_bins;
+use mojette::{MOST_POSITIONS, Record};
 use plan::Plan;
 use samples::Kind;
 
@@ -13,11 +13,14 @@ fn told(cause: u8, at: usize) -> (usize, usize) {
         Record::new(0, 1, cause),
         Record::new(-1, 1, 0),
     ];
-    let mut notes = [Note { value: 9 }; MOST_BINS];
+    let mut notes = [Note { value: 9 }; MOST_POSITIONS];
     match Plan::of(2, 2, &records) {
         Ok(plan) => {
             note_bins(&plan, &mut notes);
-            (notes[at % MOST_BINS].pixels(), notes[at % MOST_BINS].cell())
+            (
+                notes[at % MOST_POSITIONS].pixels(),
+                notes[at % MOST_POSITIONS].cell(),
+            )
         }
         Err(_) => (0, 99),
     }

@@ -8,6 +8,7 @@ use Rattle.std.proofs.lemmas.Bool.{cond-true, cond-false, lt-ltb, le-ltb, and_pa
 use Rattle.mojette.specs.declared.direction.Direction.{Direction}
 use Rattle.mojette.specs.declared.direction.Record.{Record}
 use Rattle.mojette.specs.Bins.{raw, raw_of, bins, in_bin}
+use Rattle.mojette.specs.Bounds.{most_side}
 use Rattle.mojette.specs.Directions.{equal, lawful}
 use Rattle.mojette.specs.Meaning.{side_ok}
 use Rattle.mojette.proofs.Equal.{equal_true, equal_same}
@@ -35,14 +36,8 @@ laid_direction P Q e start h =
     let least = and_parts _ _ most.1 in
     λ i. record { p = signed_back e.direction.p i; q = natural e.direction.q least.0 i }
 
-pub steps_most : (d : Direction) → lawful d ≡ true → (nat_abs d.p ≤ 7) × (nat_abs d.q ≤ 7)
-steps_most d h =
-    let most = and_parts _ _ h in
-    let least = and_parts _ _ most.1 in
-    (leb-true (nat_abs d.p) 7 most.0, leb-true (nat_abs d.q) 7 (and_parts _ _ least.1).0)
-
-pub side_most : (n : ℕ) → side_ok n ≡ true → (1 ≤ n) × (n ≤ 64)
-side_most n h = let parts = and_parts _ _ h in (leb-true 1 n parts.0, leb-true n 64 parts.1)
+pub side_most : (n : ℕ) → side_ok n ≡ true → (1 ≤ n) × (n ≤ most_side)
+side_most n h = let parts = and_parts _ _ h in (leb-true 1 n parts.0, leb-true n most_side parts.1)
 
 -- The bin of a pixel --------------------------------------------------------------------------------------------------
 

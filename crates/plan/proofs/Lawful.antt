@@ -1,14 +1,18 @@
 -- What a lawful verdict says of the directions of a shape.
-use Rattle.std.proofs.Common.{◌≡◌, ℕ, zero, suc, ◌<◌, Bool, true, false, cond, ◌&&◌, List, [], ◌∷◌, map, length, is_some, Some, None, Option, refl, ap, ◌∙◌, arith}
+use Rattle.std.proofs.Common.{◌≡◌, ℕ, zero, suc, ◌<◌, ◌≤◌, Bool, true, false, cond, ◌&&◌, List, [], ◌∷◌, map, length, is_some, Some, None, Option, refl, ap, ◌∙◌, arith}
+use Rattle.std.specs.List.{All}
+use Rattle.std.proofs.lemmas.List.Elements.{All-from_get_or}
 use Rattle.std.proofs.lemmas.Bool.{true≢false, and_parts, and_from}
 use Rattle.mojette.specs.declared.direction.Direction.{Direction}
 use Rattle.mojette.specs.declared.direction.Record.{Record}
+use Rattle.mojette.specs.Bounds.{most_bins}
 use Rattle.mojette.specs.Directions.{lawful, all_lawful, in_order, LawfulDirections}
 use Rattle.mojette.specs.Meaning.{Shape, side_ok, number_ok, follows, places_verdict, verdict}
 use Rattle.mojette.specs.Refusals.{Refusal, refusal}
+use Rattle.mojette.proofs.Bounds.{bins_most}
 use Rattle.plan.specs.declared.places.Place.{Place}
 use Rattle.plan.specs.declared.plan.Plan.{Plan}
-use Rattle.plan.specs.Laid.{direction_of, records_of, place_at}
+use Rattle.plan.specs.Laid.{direction_of, records_of, no_place, place_at}
 use Rattle.plan.specs.Shapes.{shape, places_of}
 
 abbrev directions : List Record → List Direction
@@ -54,3 +58,8 @@ module _ (plan : Plan) where
   -- Each of the places of a plan has a lawful direction.
   pub place_lawful : (xs : List Place) (i : ℕ) → xs ≡ places_of plan → i < length xs → lawful (direction_of (place_at xs i)) ≡ true
   place_lawful xs i e l = lawful_at xs i l (ap (λ zs. all_lawful (directions (records_of zs))) e ∙ (lawful_directions (shape plan) plan.lawful).each)
+
+  -- and few bins
+  pub few_bins : All (λ x. x.bins ≤ most_bins) (places_of plan)
+  few_bins = All-from_get_or (λ (x : Place). x.bins ≤ most_bins) (places_of plan) no_place
+      (λ i l. omega (arith, plan.sizes i l, bins_most (direction_of (place_at (places_of plan) i)) (place_lawful (places_of plan) i refl l) plan.size.columns plan.size.rows plan.size.few_columns plan.size.few_rows))

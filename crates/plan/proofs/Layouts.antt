@@ -1,18 +1,18 @@
 -- Places laid out one after another.
-use Rattle.std.proofs.Common.{◌≡◌, ℕ, zero, suc, ◌+◌, ◌-◌, ◌<◌, ◌≤◌, true, false, leb, ◌&&◌, ◌⊎◌, List, [], ◌∷◌, ◌++◌, length, get_or, take, nat_abs, Some, None, Option, sym, refl, ap, ◌∙◌, subst, inl, inr, add-zero, zero-add, arith}
-use Rattle.std.proofs.lemmas.Nat.{mul-le}
+use Rattle.std.proofs.Common.{◌≡◌, ℕ, zero, suc, ◌+◌, ◌<◌, ◌≤◌, true, false, leb, ◌&&◌, ◌⊎◌, List, [], ◌∷◌, ◌++◌, length, get_or, take, Some, None, Option, sym, refl, ap, ◌∙◌, subst, inl, inr, add-zero, zero-add, arith}
 use Rattle.std.proofs.lemmas.List.{take_all}
 use Rattle.std.proofs.lemmas.Bool.{cond-true, cond-false, cases_Bool, and_from, and_left, and_right, le-leb, lt-leb}
 use Rattle.mojette.specs.declared.direction.Direction.{Direction}
 use Rattle.mojette.specs.declared.direction.Record.{Record}
 use Rattle.mojette.specs.Bins.{bins, start, all_bins}
+use Rattle.mojette.specs.Bounds.{most_places}
 use Rattle.mojette.specs.Directions.{lawful}
 use Rattle.mojette.specs.Meaning.{side_ok, sides_verdict, follows, places_verdict, Shape, verdict}
 use Rattle.mojette.specs.Refusals.{Refusal, refusal}
 use Rattle.plan.specs.declared.places.Place.{Place}
 use Rattle.plan.specs.Laid.{laid, direction_of, records_of, place_at, Starts, Sizes}
 use Rattle.plan.specs.Layouts.{laid_out}
-use Rattle.plan.proofs.Cells.{laid_direction, steps_most, side_most}
+use Rattle.plan.proofs.Cells.{laid_direction}
 use Rattle.plan.proofs.Verdicts.{no_record}
 
 -- Records without a refusal are lawful ---------------------------------------------------------------------------------
@@ -54,13 +54,6 @@ module _ (P Q : ℕ) where
   length-out : (at : ℕ) (es : List Record) → length (laid_out P Q at es) ≡ length es
   length-out at [] = refl
   length-out at (e ∷ es) = ap suc (length-out (at + B e) es)
-
-  pub few_bins : side_ok P ≡ true → side_ok Q ≡ true → (d : Direction) → lawful d ≡ true → bins P Q d ≤ 883
-  few_bins p q d h =
-      let a = side_most P p in
-      let b = side_most Q q in
-      let few = steps_most d h in
-      omega (arith, mul-le (P - 1) (nat_abs d.q) 63 7 (omega arith) few.1, mul-le (Q - 1) (nat_abs d.p) 63 7 (omega arith) few.0)
 
   -- What is laid out stands for its records.
   abbrev Right : List Record → Type 0
@@ -131,11 +124,11 @@ module _ (P Q : ℕ) (es : List Record) where
       go (inr wrong) = cond-false _ _ _ wrong ∙ sym (cond-false _ _ _ wrong) ∙ sym e
 
   module _ (p : side_ok P ≡ true) (q : side_ok Q ≡ true) where
-    pub wrong_number : (length es < 1) ⊎ (16 < length es) → verdict s ≡ Some (refusal 2 0 0 0)
+    pub wrong_number : (length es < 1) ⊎ (most_places < length es) → verdict s ≡ Some (refusal 2 0 0 0)
     unfolding verdict
     wrong_number (inl n) = cond-true _ _ _ (and_from _ _ p q) ∙ cond-false _ _ _ (and_left (leb 1 (length es)) _ (lt-leb 1 (length es) n))
-    wrong_number (inr n) = cond-true _ _ _ (and_from _ _ p q) ∙ cond-false _ _ _ (and_right (leb 1 (length es)) _ (lt-leb (length es) 16 n))
+    wrong_number (inr n) = cond-true _ _ _ (and_from _ _ p q) ∙ cond-false _ _ _ (and_right (leb 1 (length es)) _ (lt-leb (length es) most_places n))
 
-    pub by_places : 1 ≤ length es → length es ≤ 16 → verdict s ≡ places_verdict 0 None es
+    pub by_places : 1 ≤ length es → length es ≤ most_places → verdict s ≡ places_verdict 0 None es
     unfolding verdict
-    by_places some few = cond-true _ _ _ (and_from _ _ p q) ∙ cond-true _ _ _ (and_from _ _ (le-leb 1 (length es) some) (le-leb (length es) 16 few))
+    by_places some few = cond-true _ _ _ (and_from _ _ p q) ∙ cond-true _ _ _ (and_from _ _ (le-leb 1 (length es) some) (le-leb (length es) most_places few))

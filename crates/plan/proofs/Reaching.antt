@@ -12,7 +12,8 @@ use Rattle.plan.specs.declared.plan.Plan.{Plan}
 use Rattle.plan.specs.Criteria.{whole_of}
 use Rattle.plan.specs.Laid.{direction_of, record_of, records_of, no_place, place_at}
 use Rattle.plan.specs.Shapes.{shape, places_of}
-use Rattle.plan.proofs.Cells.{steps_most}
+use Rattle.mojette.specs.Bounds.{most_step}
+use Rattle.mojette.proofs.Bounds.{steps_most}
 use Rattle.plan.proofs.Lawful.{lawful_directions}
 
 pub left_most : (p : ℤ) → left p ≤ nat_abs p
@@ -25,7 +26,7 @@ pub record Total : Type 0 where
   pub all : List Direction → ℕ
   pub none : all [] ≡ 0
   pub more : (d : Direction) (ds : List Direction) → all (d ∷ ds) ≡ each d + all ds
-  pub few : (d : Direction) → lawful d ≡ true → each d ≤ 7
+  pub few : (d : Direction) → lawful d ≡ true → each d ≤ most_step
 
 abbrev pub columns_total : Total
 columns_total = record { each = λ d. nat_abs d.p; all = columns; none = refl; more = λ d ds. refl; few = λ d h. (steps_most d h).0 }
@@ -66,14 +67,14 @@ module _ (t : Total) where
       go true h = omega (arith, t.more (direction_of x) (whole_directions (records_of xs)))
       go false h = h
 
-  over_most : (es : List Record) → all_lawful (map (λ e. e.direction) es) ≡ true → t.all (whole_directions es) ≤ 7 * length es
+  over_most : (es : List Record) → all_lawful (map (λ e. e.direction) es) ≡ true → t.all (whole_directions es) ≤ most_step * length es
   over_most [] h = omega (arith, t.none)
   over_most (e ∷ es) h =
       let parts = and_parts (lawful e.direction) _ h in
       go (whole e) (t.few e.direction parts.0) (over_most es parts.1)
     where
-      go : (w : Bool) → t.each e.direction ≤ 7 → t.all (whole_directions es) ≤ 7 * length es
-          → t.all (cond w (e.direction ∷ whole_directions es) (whole_directions es)) ≤ 7 * length (e ∷ es)
+      go : (w : Bool) → t.each e.direction ≤ most_step → t.all (whole_directions es) ≤ most_step * length es
+          → t.all (cond w (e.direction ∷ whole_directions es) (whole_directions es)) ≤ most_step * length (e ∷ es)
       go true a b = omega (arith, t.more e.direction (whole_directions es))
       go false a b = omega arith
 

@@ -1,7 +1,7 @@
 // A lawful plan. A file of its own, so that `specs/` can name the type.
-ghost use Rattle.std.specs.Prelude.{◌≡◌, ◌<◌, ◌≤◌, false, take, is_some};
+ghost use Rattle.std.specs.Prelude.{◌≡◌, ◌≤◌, false, take, is_some};
 ghost use Rattle.mojette.specs.Bins.{all_bins};
-ghost use Rattle.mojette.specs.Bounds.{most_places};
+ghost use Rattle.mojette.specs.Bounds.{most_places, most_positions};
 ghost use Rattle.mojette.specs.Meaning.{verdict};
 ghost use Rattle.plan.specs.Laid.{shape_from, records_of, Starts, Sizes};
 
@@ -24,5 +24,5 @@ pub struct Plan {
     ghost some_places: { 1 ≤ count },
     ghost few_places: { count ≤ most_places },
     ghost some_bins: { 1 ≤ total },
-    ghost few_bins: { total < 65536 },
+    ghost few_bins: { total ≤ most_positions },
 }

@@ -1,9 +1,10 @@
 // The Mojette projection of a picture along one direction, written once for every kind of sample.
-ghost use Rattle.std.specs.Prelude.{◌≡◌, ◌*◌, ◌≤◌, true, ◌++◌, length, drop};
+ghost use Rattle.std.specs.Prelude.{◌≡◌, ◌*◌, ◌≤◌, true, ◌++◌, length, drop, IfOk};
 ghost use Rattle.mojette.specs.Bins.{bins};
-ghost use Rattle.mojette.specs.Bounds.{most_step};
+ghost use Rattle.mojette.specs.Bounds.{most_step, most_bins};
 ghost use Rattle.mojette.specs.Directions.{lawful};
 ghost use Rattle.mojette.specs.Faults.{outcome};
+ghost use Rattle.mojette.specs.TenBits.{TenBitsNeverWrap};
 ghost use Rattle.mojette.specs.Transform.{projection};
 ghost use Rattle.plan.specs.Laid.{direction_of};
 ghost use Rattle.plan.specs.Projecting.{projected, projecting};
@@ -70,7 +71,9 @@ fn write_sums<K: Kind>(size: Size, direction: Direction, picture: &[K], sums: &m
     add_up_by_step(size, place, picture, sums);
 }
 
-// Writes the sums of one direction, and answers how many bins it has. Any two numbers and any direction may be asked for.
+// Writes the sums of one direction, and answers how many bins it has. Any two numbers and any direction may be asked for. Of sum words the sums are
+// modulo 65,536; those of ten bits never come so far.
+#[tactic(auto, using(mojette::proofs::TenBits::ten_bits_never_wrap))]
 pub fn project<K: Kind>(
     columns: usize,
     rows: usize,
@@ -78,7 +81,9 @@ pub fn project<K: Kind>(
     picture: &[K],
     sums: &mut [K],
 ) -> Result<usize, Fault>
-    ensures { projected (outcome result) sums.new ≡ projecting K.Kind columns rows direction picture.now sums.old }
+    ensures value { projected (outcome result) sums.new ≡ projecting K.Kind columns rows direction picture.now sums.old }
+    ensures few { IfOk result (λ bins. bins ≤ most_bins) }
+    ensures ten_bits { TenBitsNeverWrap }
 {
     let size = Size::of(columns, rows)?;
     if !direction.is_lawful() {

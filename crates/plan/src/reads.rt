@@ -1,6 +1,7 @@
 // Reading a plan.
-ghost use Rattle.std.specs.Prelude.{◌≡◌, ◌<◌, ◌≤◌, length};
+ghost use Rattle.std.specs.Prelude.{◌≡◌, ◌≤◌, All, length};
 ghost use Rattle.mojette.specs.Bins.{start};
+ghost use Rattle.mojette.specs.Bounds.{most_bins, most_positions};
 ghost use Rattle.mojette.specs.Meaning.{pixels_of, bins_of};
 ghost use Rattle.plan.specs.Shapes.{shape, places_of};
 
@@ -11,7 +12,8 @@ use mojette::Size;
 impl Plan {
     // The places, in order.
     pub fn places(&self) -> &[Place]
-        ensures { result.now ≡ places_of self.now }
+        ensures value { result.now ≡ places_of self.now }
+        ensures few_bins { All (λ place. place.bins ≤ most_bins) result.now }
     {
         &self.places[0..self.count]
     }
@@ -63,7 +65,7 @@ impl Plan {
     pub fn total(&self) -> usize
         ensures value { result ≡ bins_of (shape self.now) }
         ensures some { 1 ≤ result }
-        ensures few { result < 65536 }
+        ensures few { result ≤ most_positions }
     {
         self.total
     }

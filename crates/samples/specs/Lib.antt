@@ -2,6 +2,7 @@ pub mod Codes
 pub mod Codings
 pub mod Group
 pub mod Kinds
+pub mod Modular
 pub mod Names
 pub mod Pairs
 pub mod Reading

@@ -1,8 +1,7 @@
 -- Sum words and XOR words as groups.
 use Rattle.std.specs.Prelude.{◌≡◌, ℕ, ◌+◌, ◌-◌, ◌%◌, ◌^◌, ◌<◌, Bool, ◌==◌, bit_xor, refl}
-use Rattle.std.proofs.Common.{sym, ap, ◌∙◌, mod-lt, arith, lit<}
+use Rattle.std.proofs.Common.{ap, mod-lt, arith, lit<}
 use mathlib.Core.HLevel.{is_prop→PathP}
-use Rattle.std.proofs.Math.Nat.{mod-add-mod, add-mod-mod}
 use Rattle.std.proofs.Math.Bridge.{le_prop}
 use Rattle.std.specs.Int.Bits.{xor_assoc, xor_zero_r, xor_self}
 use Rattle.std.proofs.lemmas.Nat.{xor_comm, xor_lt}
@@ -10,6 +9,7 @@ use Rattle.std.proofs.lemmas.Bool.{eqb-true, eq-eqb}
 use Rattle.samples.specs.Group.{Group}
 use Rattle.samples.specs.declared.words.SumWord.{SumWord}
 use Rattle.samples.specs.declared.words.XorWord.{XorWord}
+use Rattle.samples.specs.Modular.{Words as Modular, modular_laws}
 
 -- the sum word of a number
 abbrev pub sum_of : ℕ → SumWord
@@ -34,16 +34,12 @@ sum_same x y e = λ i. record { value = e i; fits = is_prop→PathP (λ j. e j <
 abbrev pub sum_equal : SumWord → SumWord → Bool
 sum_equal x y = x.value == y.value
 
+-- modulo 2^16
+sum_modular : Modular 16 (λ (x : SumWord). x.value) sum_of
+sum_modular = record { some_bits = lit< tt; fits = λ x. x.fits; value-of = λ n. refl; same = sum_same }
+
 pub sum_laws : Group sum_plus sum_inverse sum_zero sum_spark sum_equal
-sum_laws = record {
-  assoc = λ x y z. sum_same _ _ (mod-add-mod (x.value + y.value) (2 ^ 16) z.value ∙ ap (λ n. n % 2 ^ 16) (omega arith) ∙ sym (add-mod-mod x.value (y.value + z.value) (2 ^ 16)));
-  comm = λ x y. sum_same _ _ (ap (λ n. n % 2 ^ 16) (omega arith));
-  neutral = λ x. sum_same _ _ (let f = x.fits in omega arith);
-  cancel = λ x. sum_same _ _ (let f = x.fits in omega arith);
-  apart = λ e. let v : 1 ≡ 0 = ap (λ w. w.value) e in omega arith;
-  equal_same = λ x y e. sum_same x y (eqb-true x.value y.value e);
-  equal_self = λ x. eq-eqb x.value x.value refl;
-}
+sum_laws = modular_laws sum_modular
 
 -- the XOR word of a number
 abbrev pub xor_of : ℕ → XorWord

@@ -4,13 +4,14 @@ use Rattle.std.proofs.lemmas.Nat.{mul-le}
 use Rattle.samples.specs.declared.words.SumWord.{SumWord}
 use Rattle.mojette.specs.declared.direction.Record.{Record}
 use Rattle.mojette.specs.Bins.{bins}
+use Rattle.mojette.specs.Bounds.{most_side, most_pixels, most_bins}
 use Rattle.mojette.specs.Directions.{lawful}
 use Rattle.mojette.specs.Faults.{served}
 use Rattle.mojette.specs.Meaning.{Meaning, shape_of, side_ok, verdict}
+use Rattle.mojette.proofs.Bounds.{bins_most}
 use Rattle.plan.specs.declared.plan.Plan.{Plan}
 use Rattle.plan.specs.Layouts.{Plans}
 use Rattle.plan.proofs.Cells.{side_most}
-use Rattle.plan.proofs.Layouts.{few_bins}
 use Rattle.source.specs.Questions.{bins_at, asked_place}
 use Rattle.source.proofs.Asking.{Found, place_found}
 use Rattle.source.proofs.Verdicts.{columns_ok, rows_ok, direction_ok}
@@ -40,11 +41,11 @@ module _ {m : Meaning SumWord} {i P Q : ℕ} {e : Record} (h : Known m i P Q e) 
   pub direction_known : lawful e.direction ≡ true
   direction_known = ap (λ x. lawful x.direction) is.same ∙ direction_ok m i h.lawful_source is.inside
 
-  pub pixels_few : P * Q ≤ 4096
-  pixels_few = mul-le P Q 64 64 (side_most P columns_known).1 (side_most Q rows_known).1
+  pub pixels_few : P * Q ≤ most_pixels
+  pixels_few = mul-le P Q most_side most_side (side_most P columns_known).1 (side_most Q rows_known).1
 
-  pub bins_few : bins P Q e.direction ≤ 883
-  bins_few = few_bins P Q columns_known rows_known e.direction direction_known
+  pub bins_few : bins P Q e.direction ≤ most_bins
+  bins_few = bins_most e.direction direction_known P Q (side_most P columns_known).1 (side_most Q rows_known).1
 
   module _ (n : ℕ) (size : n ≡ bins P Q e.direction) where
     pub bins_known : n ≡ bins_at m i

@@ -1,8 +1,9 @@
 // The strip of a place: the mean sample of each of its bins.
-ghost use Rattle.std.specs.Prelude.{◌≡◌, ℕ, ◌*◌, ◌<◌, ◌≤◌, true, map, length, slice_index_or};
+ghost use Rattle.std.specs.Prelude.{◌≡◌, ℕ, ◌*◌, ◌<◌, ◌≤◌, true, map, length, slice_index_or, IfOk};
 ghost use Rattle.std.specs.List.{range_with_len};
 ghost use Rattle.samples.specs.Words.{sum_zero};
 ghost use Rattle.mojette.specs.Bins.{bins as bin_number, whole};
+ghost use Rattle.mojette.specs.Bounds.{most_side, most_bins};
 ghost use Rattle.mojette.specs.Directions.{lawful};
 ghost use Rattle.mojette.specs.Faults.{outcome};
 ghost use Rattle.source.specs.Questions.{place_at, bins_at};
@@ -10,14 +11,9 @@ ghost use Rattle.source.specs.Strips.{pixels_in, mean as mean_by, mean_at, strip
 
 use crate::lawful::plan_of;
 use crate::source::Source;
-use mojette::{Direction, Fault, MOST_SIDE, MOST_STEP, Size};
+use mojette::{Direction, Fault, MOST_BINS, MOST_PIXELS, Size};
 use plan::project::project;
 use samples::SumWord;
-
-// The most pixels of a tile, and room for the bins of any direction.
-const MOST_PIXELS: usize = MOST_SIDE * MOST_SIDE;
-
-const MOST_BINS: usize = 2 * (MOST_SIDE - 1) * (MOST_STEP as usize) + 1;
 
 // The number of pixels of each bin, which is the projection of a tile of ones; walk counts all bins of a plan, as bytes. Answers how many
 // bins there are.
@@ -27,6 +23,7 @@ fn count_pixels(size: Size, direction: Direction, ones: &[SumWord], counts: &mut
     requires room { (size.columns * size.rows ≤ length ones.now) × (bin_number size.columns size.rows direction ≤ length counts.old) }
     ensures bins { result ≡ bin_number size.columns size.rows direction }
     ensures counts { (b : ℕ) → b < bin_number size.columns size.rows direction → (slice_index_or counts.new b sum_zero).value ≡ pixels_in size.columns size.rows direction b }
+    ensures few { (b : ℕ) → b < bin_number size.columns size.rows direction → (slice_index_or counts.new b sum_zero).value ≤ most_side }
 {
     let Ok(bins) = project(size.columns, size.rows, direction, ones, counts) else {
         unreachable()
@@ -74,7 +71,8 @@ pub fn strip<S: Source<Sample = SumWord>>(
     place: usize,
     out: &mut [u16],
 ) -> Result<usize, Fault>
-    ensures { stripped (outcome result) out.new ≡ stripping (S.meaning source.now) place out.old }
+    ensures value { stripped (outcome result) out.new ≡ stripping (S.meaning source.now) place out.old }
+    ensures few { IfOk result (λ bins. bins ≤ most_bins) }
 {
     let plan = plan_of(source)?;
     let record = source.place(place)?;

@@ -1,18 +1,19 @@
 -- At each position of a plan few pixels lie: no more than a tile has rows, or columns.
-use Rattle.std.proofs.Common.{◌≡◌, ℕ, zero, suc, ◌+◌, ◌-◌, ◌*◌, ◌<◌, ◌≤◌, Bool, true, false, ◌&&◌, length, sym, refl, ap, ◌∙◌, subst, ⊎_elim, add-one, arith}
+use Rattle.std.proofs.Common.{◌≡◌, ℕ, zero, suc, ◌+◌, ◌-◌, ◌*◌, ◌<◌, ◌≤◌, Bool, true, false, ◌&&◌, List, length, get_or, sym, refl, ap, ◌∙◌, subst, ⊎_elim, add-one, arith}
 use Rattle.std.proofs.lemmas.Bool.{cases_lt}
 use Rattle.mojette.specs.Bins.{bins, in_bin, whole, start}
 use Rattle.mojette.specs.Bounds.{most_side}
 use Rattle.mojette.specs.Meaning.{pixels_of, bins_of}
 use Rattle.peeling.specs.Counting.{number}
 use Rattle.peeling.proofs.Counts.{number_same}
+use Rattle.peeling.proofs.Loops.{get_or-filled}
 use Rattle.law.specs.Positions.{incidence}
 use Rattle.plan.specs.declared.places.Place.{Place}
 use Rattle.plan.specs.declared.plan.Plan.{Plan}
 use Rattle.plan.specs.Laid.{direction_of, record_of, records_of}
 use Rattle.plan.specs.Laid.{place_at as nth}
 use Rattle.plan.specs.Shapes.{shape, places_of}
-use Rattle.walk.specs.Counts.{pixels_of_bin}
+use Rattle.walk.specs.Counts.{counted, pixels_of_bin, FewPixels}
 use Rattle.walk.specs.Lines.{OnTile}
 use Rattle.walk.proofs.Cells.{pixels_by_rows}
 use Rattle.walk.proofs.Counting.{across, none_in_lost}
@@ -61,6 +62,11 @@ module _ (plan : Plan) where
           subst (λ k. pixels_at k ≤ most_side) e
           (few_in_place n (omega arith) (at - (nth (places_of plan) n).start) (omega (arith, next, start_is plan n (omega arith))))
 
-  pub few_pixels : (b : ℕ) → b < bins_of (shape plan) → number (pixels_of (shape plan)) (λ c. (incidence (shape plan)).lies c b) ≤ 64
+  pub few_pixels : (b : ℕ) → b < bins_of (shape plan) → number (pixels_of (shape plan)) (λ c. (incidence (shape plan)).lies c b) ≤ most_side
   few_pixels b l =
       few_below (length (places_of plan)) (omega arith) b (omega (arith, all_starts plan (length (places_of plan)) (omega arith) (omega arith)))
+
+  -- so that their counts are few
+  pub few_counted : (counts new : List ℕ) → new ≡ counted (shape plan) counts → bins_of (shape plan) ≤ length counts → FewPixels (shape plan) new
+  few_counted counts new is long b l =
+      omega (arith, ap (λ xs. get_or xs b 0) is, get_or-filled (bins_of (shape plan)) pixels_at counts 0 b long l, few_pixels b l)

@@ -19,7 +19,9 @@ use Rattle.plan.specs.declared.plan.Plan.{Plan}
 use Rattle.plan.specs.Laid.{signed, direction_of, record_of, records_of}
 use Rattle.plan.specs.Laid.{place_at as nth}
 use Rattle.plan.specs.Shapes.{shape, places_of}
-use Rattle.plan.proofs.Cells.{size_of, steps_most}
+use Rattle.mojette.specs.Bounds.{most_step}
+use Rattle.mojette.proofs.Bounds.{steps_most}
+use Rattle.plan.proofs.Cells.{size_of}
 use Rattle.walk.specs.Lines.{Coprime, OnTile}
 
 multiple : (t : ℤ) (a s : ℕ) → pos a ≡ t *ℤ pos s → a < s → a ≡ 0
@@ -83,7 +85,7 @@ module _ (plan : Plan) (i : ℕ) (l : i < length (places_of plan)) where
     some_rows = plan.size.some_rows;
     few_rows = plan.size.few_rows;
     q_most = (steps_most (direction_of x) law).1;
-    s_most = subst (λ n. n ≤ 7) slope (steps_most (direction_of x) law).0;
+    s_most = subst (λ n. n ≤ most_step) slope (steps_most (direction_of x) law).0;
     steps = some_step x.q x.leftward x.slope (lawful_is (direction_of x) law).level;
     coprime = coprime_of x.slope x.q (subst (λ n. gcd n x.q ≡ 1) slope (lawful_is (direction_of x) law).coprime);
     inside = let e = ap (λ (n : ℕ). (Q - 1) * n) slope in omega (arith, bins_are);

@@ -1,6 +1,7 @@
 -- Counting the pixels of all bins, one bin after another.
-use Rattle.std.specs.Prelude.{◌≡◌, ℕ, ◌+◌, ◌*◌, ◌≤◌, Bool, cond, ◌&&◌, List, length, Some, None, Option, nat_lt}
+use Rattle.std.specs.Prelude.{◌≡◌, ℕ, ◌+◌, ◌*◌, ◌<◌, ◌≤◌, Bool, cond, ◌&&◌, List, length, Some, None, Option, nat_lt, slice_index}
 use Rattle.mojette.specs.Bins.{bins, in_bin, whole}
+use Rattle.mojette.specs.Bounds.{most_side}
 use Rattle.mojette.specs.Meaning.{Shape, pixels_of, bins_of}
 use Rattle.mojette.specs.Refusals.{Refusal, refusal}
 use Rattle.peeling.specs.Counting.{number}
@@ -24,6 +25,10 @@ counting_refused s counts = cond (too_short s counts) (Some (refusal 5 4 0 0)) N
 
 abbrev pub counts_after : Shape → List ℕ → List ℕ
 counts_after s counts = cond (too_short s counts) counts (counted s counts)
+
+-- The count of each bin is at most a side: a bin has one pixel of each row at most, or those of one row.
+abbrev pub FewPixels : Shape → List ℕ → Type 0
+FewPixels s counts = (b : ℕ) → b < bins_of s → slice_index counts b ≤ most_side
 
 -- A place of a tile of P by Q, with all its positions below n.
 pub record LaidWithin (P Q : ℕ) (x : Place) (n : ℕ) : Type 0 where

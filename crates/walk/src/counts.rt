@@ -1,11 +1,11 @@
 // Counting the pixels of all bins.
-ghost use Rattle.std.specs.Prelude.{◌≡◌, ℕ, ◌≤◌, ◌<◌, true, length, slice_index};
+ghost use Rattle.std.specs.Prelude.{◌≡◌, ℕ, ◌≤◌, ◌<◌, true, length, slice_index, OnOk};
 ghost use Rattle.mojette.specs.Bins.{whole};
 ghost use Rattle.mojette.specs.Faults.{refused};
 ghost use Rattle.law.specs.Steps.{written};
 ghost use Rattle.plan.specs.Laid.{record_of};
 ghost use Rattle.plan.specs.Shapes.{shape};
-ghost use Rattle.walk.specs.Counts.{counting_refused, counts_after, LaidWithin, pixels_of_bin};
+ghost use Rattle.walk.specs.Counts.{counting_refused, counts_after, FewPixels, LaidWithin, pixels_of_bin};
 ghost use Rattle.walk.specs.Lines.{OnTile};
 ghost use Rattle.walk.specs.Passing.{Passes};
 
@@ -80,6 +80,7 @@ fn count_place(size: Size, place: Place, counts: &mut [u8])
 pub fn count_pixels(plan: &Plan, counts: &mut [u8]) -> Result<(), Fault>
     ensures answer { refused result ≡ counting_refused (shape plan.now) counts.old }
     ensures counts { counts.new ≡ counts_after (shape plan.now) counts.old }
+    ensures few { OnOk result (FewPixels (shape plan.now) counts.new) }
 {
     if counts.len() < plan.total() {
         return Err(Fault::ShortTable(Table::Counts));

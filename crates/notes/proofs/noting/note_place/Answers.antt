@@ -7,7 +7,7 @@ use Rattle.notes.proofs.noting.note_place.Goals as goal
 pub returns-then-is_whole : goal.returns-then-is_whole
 returns-then-is_whole c =
     place_noted c.args.size c.args.place c.args.tile.now c.args.notes.now c.project-bins.new.sums c.direction_of.result _ c.direction_of.ensures c.requires.direction
-    (sym c.is_whole.ensures ∙ c.if-is_whole.true) c.requires.tile c.requires.room c.project-bins.ensures (λ i. c.project-bins.new.sums)
+    (sym c.is_whole.ensures ∙ c.if-is_whole.true) c.requires.tile c.requires.room c.project-bins.ensures.value (λ i. c.project-bins.new.sums)
 
 pub returns-else-is_whole : goal.returns-else-is_whole
 returns-else-is_whole c = λ b l.

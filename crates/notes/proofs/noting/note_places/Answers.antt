@@ -9,21 +9,21 @@ use Rattle.notes.proofs.noting.note_places.Goals as goal
 
 pub overflow_add-place : goal.overflow_add-place
 overflow_add-place c =
-    let t = turn c.args.plan.now c.places-place-items.result.now c.loop-place.place-index c.places-place-items.ensures c.loop-place-test.true in
+    let t = turn c.args.plan.now c.places-place-items.result.now c.loop-place.place-index c.places-place-items.ensures.value c.loop-place-test.true in
     let few = c.args.plan.now.few_bins in
     let h = t.inside in
     search rules
 
 pub offset_bounds-notes-place : goal.offset_bounds-notes-place
 offset_bounds-notes-place c =
-    let t = turn c.args.plan.now c.places-place-items.result.now c.loop-place.place-index c.places-place-items.ensures c.loop-place-test.true in
+    let t = turn c.args.plan.now c.places-place-items.result.now c.loop-place.place-index c.places-place-items.ensures.value c.loop-place-test.true in
     let few = c.args.plan.now.few_bins in
     let h = t.inside in
     search rules
 
 pub slice_bounds-note_place-end : goal.slice_bounds-note_place-end
 slice_bounds-note_place-end c =
-    let t = turn c.args.plan.now c.places-place-items.result.now c.loop-place.place-index c.places-place-items.ensures c.loop-place-test.true in
+    let t = turn c.args.plan.now c.places-place-items.result.now c.loop-place.place-index c.places-place-items.ensures.value c.loop-place-test.true in
     let x = nth c.places-place-items.result.now c.loop-place.place-index in
     let h : x.start + x.bins ≤ length c.loop-place.notes = omega (arith, t.inside, c.requires.room, c.args.plan.now.full, c.loop-place.auto.notes) in
     search rules
@@ -33,7 +33,7 @@ note_place-requires c =
     let plan = c.args.plan.now in
     let i = c.loop-place.place-index in
     let xs = c.places-place-items.result.now in
-    let e = c.places-place-items.ensures in
+    let e = c.places-place-items.ensures.value in
     let t = turn plan xs i e c.loop-place-test.true in
     let x = nth xs i in
     let law = place_lawful plan xs i e c.loop-place-test.true in
@@ -56,7 +56,7 @@ loop-place-preserved c =
     let plan = c.args.plan.now in
     let i = c.loop-place.place-index in
     let xs = c.places-place-items.result.now in
-    let t = turn plan xs i c.places-place-items.ensures c.loop-place-test.true in
+    let t = turn plan xs i c.places-place-items.ensures.value c.loop-place-test.true in
     let x = nth xs i in
     let old = c.loop-place.notes in
     let room : x.start + x.bins ≤ length old = omega (arith, t.inside, c.requires.room, plan.full, c.loop-place.auto.notes) in
@@ -66,6 +66,6 @@ loop-place-preserved c =
 
 pub returns : goal.returns
 returns c = λ b l.
-    let e = ap length c.places-place-items.ensures in
+    let e = ap length c.places-place-items.ensures.value in
     let all = all_starts c.args.plan.now c.loop-place.place-index (omega (arith, c.loop-place.auto.place-index-end)) (omega (arith, c.loop-place-test.false)) in
     c.loop-place.invariant b (omega arith)

@@ -2,10 +2,12 @@ use Rattle.std.proofs.Common.{◌≡◌, ◌+◌, ◌<◌, ◌≤◌, false, [],
 use Rattle.std.proofs.lemmas.List.{take_more, take_more_set, take_all, length-set}
 use Rattle.mojette.specs.declared.direction.Record.{Record}
 use Rattle.mojette.specs.Bins.{bins, all_bins}
+use Rattle.mojette.specs.Bounds.{most_bins}
 use Rattle.mojette.specs.Meaning.{verdict}
+use Rattle.mojette.proofs.Bounds.{bins_most}
 use Rattle.plan.specs.Laid.{laid, shape_from}
 use Rattle.plan.specs.Layouts.{laid_out}
-use Rattle.plan.proofs.Layouts.{lawful_at, bins_more, out_more, few_bins, stands_at_end, by_places}
+use Rattle.plan.proofs.Layouts.{lawful_at, bins_more, out_more, stands_at_end, by_places}
 use Rattle.plan.proofs.Verdicts.{no_record}
 use Rattle.plan.proofs.layout.lay_out.Goals as goal
 
@@ -13,10 +15,11 @@ use Rattle.plan.proofs.layout.lay_out.Goals as goal
 size_is : (c : goal.After-struct_known-1) → c.lay-place.result.bins ≡ bins c.args.size.columns c.args.size.rows (get_or c.args.records.now c.loop-i.i no_record).direction
 size_is c = ap (λ x. x.bins) c.lay-place.ensures
 
-size_few : (c : goal.After-struct_known-1) → c.lay-place.result.bins ≤ 883
+size_few : (c : goal.After-struct_known-1) → c.lay-place.result.bins ≤ most_bins
 size_few c =
-    subst (λ n. n ≤ 883) (sym (size_is c))
-    (few_bins c.args.size.columns c.args.size.rows c.args.size.columns_ok c.args.size.rows_ok (get_or c.args.records.now c.loop-i.i no_record).direction (lawful_at 0 _ c.args.records.now c.requires.places c.loop-i.i c.loop-i-test.true))
+    let law = lawful_at 0 _ c.args.records.now c.requires.places c.loop-i.i c.loop-i-test.true in
+    subst (λ n. n ≤ most_bins) (sym (size_is c))
+    (bins_most (get_or c.args.records.now c.loop-i.i no_record).direction law c.args.size.columns c.args.size.rows c.args.size.few_columns c.args.size.few_rows)
 
 pub overflow_add-total : goal.overflow_add-total
 overflow_add-total c = let few = size_few c in let v = c.loop-i.invariant in omega (arith, c.requires.number.1)

@@ -6,7 +6,9 @@ use Rattle.mojette.specs.Bins.{bins}
 use Rattle.plan.specs.Laid.{direction_of}
 use Rattle.plan.specs.Sums.{SumUpTo}
 use Rattle.plan.proofs.Adding.{none_added, all_added}
-use Rattle.plan.proofs.Cells.{laid_direction, steps_most}
+use Rattle.mojette.specs.Bounds.{most_step}
+use Rattle.mojette.proofs.Bounds.{steps_most}
+use Rattle.plan.proofs.Cells.{laid_direction}
 use Rattle.plan.proofs.project.write_sums.Goals as goal
 
 pub add_up_by_step-requires : goal.add_up_by_step-requires
@@ -21,7 +23,7 @@ add_up_by_step-requires g c =
     let size : n ≡ bins P Q (direction_of c.lay-place.result) = ap (λ x. x.bins) laid ∙ ap (bins P Q) (sym d) in
     let long : length c.clear.new.cells ≡ n = omega (arith, c.clear.auto.cells, length-take n sums, c.requires.room.1, ap (bins P Q) d) in
     record {
-      small = (subst (λ n. n ≤ 7) (sym (ap (λ x. x.slope) laid)) few.0, subst (λ n. n ≤ 7) (sym (ap (λ x. x.q) laid)) few.1);
+      small = (subst (λ n. n ≤ most_step) (sym (ap (λ x. x.slope) laid)) few.0, subst (λ n. n ≤ most_step) (sym (ap (λ x. x.q) laid)) few.1);
       room = (c.requires.room.0, omega (arith, c.requires.room.1, ap (bins P Q) d, length-append c.clear.new.cells (drop n sums), length-drop n sums, long));
       clear = none_added g.K.Kind P Q (direction_of c.lay-place.result) _ _
           (λ b h. get_or_append_left c.clear.new.cells (drop n sums) g.K.Kind.zero b (omega arith) ∙ c.clear.ensures b);

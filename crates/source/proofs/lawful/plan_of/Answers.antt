@@ -1,6 +1,7 @@
 use Rattle.std.proofs.Common.{◌≡◌, ◌<◌, true, length, sym, ap, ◌∙◌, subst, inl, inr, ⊎_elim}
 use Rattle.std.proofs.lemmas.List.{length-map}
 use Rattle.std.proofs.lemmas.Result.{err_from_is_err_and}
+use Rattle.mojette.specs.Bounds.{most_places}
 use Rattle.mojette.specs.Faults.{refusal_of}
 use Rattle.mojette.specs.Meaning.{shape_of, side_ok, sides_verdict}
 use Rattle.plan.proofs.Layouts.{wrong_size, wrong_number}
@@ -23,4 +24,4 @@ returns-then-count-lt1 g c =
     wrong_number m.P m.Q (shape_of m).records
     (subst (λ n. side_ok n ≡ true) (c.in_ok-size.ensures.value.0 ∙ ap (λ s. s.columns) same) size.columns_ok)
     (subst (λ n. side_ok n ≡ true) (c.in_ok-size.ensures.value.1 ∙ ap (λ s. s.rows) same) size.rows_ok)
-    (⊎_elim (λ few. inl (subst (λ n. n < 1) (sym number) few)) (λ many. inr (subst (λ n. 16 < n) (sym number) many.1)) c.then-count-lt1.either)
+    (⊎_elim (λ few. inl (subst (λ n. n < 1) (sym number) few)) (λ many. inr (subst (λ n. most_places < n) (sym number) many.1)) c.then-count-lt1.either)

@@ -20,14 +20,14 @@ pub returns-then-b-place : goal.returns-then-b-place
 returns-then-b-place g c =
     no_bin_answer g.K.Kind c.args.plan.now.size.columns c.args.plan.now.size.rows c.args.records.now c.args.run.now c.args.i c.args.b
     c.in_ok-record.record c.in_ok-record.ensures c.places.result.now
-    (run_of c.args.plan.now c.args.records.now c.args.run.now c.places.result.now c.places.ensures c.requires.same c.requires.full)
+    (run_of c.args.plan.now c.args.records.now c.args.run.now c.places.result.now c.places.ensures.value c.requires.same c.requires.full)
     c.if-record-ne0.false c.if-b-place.true
 
 pub bounds-run-place : goal.bounds-run-place
 bounds-run-place g c =
     bin_inside g.K.Kind c.args.plan.now.size.columns c.args.plan.now.size.rows c.args.records.now c.args.run.now c.args.i c.args.b
     c.in_ok-record.record c.in_ok-record.ensures c.places.result.now
-    (run_of c.args.plan.now c.args.records.now c.args.run.now c.places.result.now c.places.ensures c.requires.same c.requires.full)
+    (run_of c.args.plan.now c.args.records.now c.args.run.now c.places.result.now c.places.ensures.value c.requires.same c.requires.full)
     c.if-b-place.false
 
 pub offset_bounds-run-place : goal.offset_bounds-run-place
@@ -40,5 +40,5 @@ pub returns : goal.returns
 returns g c =
     bin_answer g.K.Kind c.args.plan.now.size.columns c.args.plan.now.size.rows c.args.records.now c.args.run.now c.args.i c.args.b
     c.in_ok-record.record c.in_ok-record.ensures c.places.result.now
-    (run_of c.args.plan.now c.args.records.now c.args.run.now c.places.result.now c.places.ensures c.requires.same c.requires.full)
+    (run_of c.args.plan.now c.args.records.now c.args.run.now c.places.result.now c.places.ensures.value c.requires.same c.requires.full)
     c.if-record-ne0.false c.if-b-place.false c.index-run-place.result c.index-run-place.is

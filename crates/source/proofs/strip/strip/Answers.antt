@@ -2,6 +2,7 @@ use Rattle.std.proofs.Common.{◌≡◌, length, take, sym, ap, ◌∙◌, arith
 use Rattle.std.proofs.lemmas.List.{get_or-replicate, length-take-le}
 use Rattle.samples.specs.declared.words.SumWord.{SumWord}
 use Rattle.samples.specs.Words.{sum_zero}
+use Rattle.mojette.specs.Bounds.{most_pixels}
 use Rattle.source.proofs.Stripping.{known, direction_known, pixels_few, bins_few, bins_known}
 use Rattle.source.proofs.strip.strip.Goals as goal
 
@@ -11,7 +12,7 @@ count_pixels-bins-requires g c =
     c.in_ok-plan.ensures c.size.ensures.columns c.size.ensures.rows c.in_ok-record.ensures in
     record {
       direction = direction_known h;
-      ones = λ k l. ap (λ (w : SumWord). w.value) (get_or-replicate 4096 k _ sum_zero l);
+      ones = λ k l. ap (λ (w : SumWord). w.value) (get_or-replicate most_pixels k _ sum_zero l);
       room = (pixels_few h, bins_few h);
     }
 

@@ -10,7 +10,7 @@ use Rattle.tile.proofs.finish.first_left.Goals as goal
 pub overflow_add-own : goal.overflow_add-own
 overflow_add-own g c =
     let plan = c.args.plan.now in
-    let t = turn plan c.places-places.result.now c.loop-i.i c.places-places.ensures c.loop-i-test.true in
+    let t = turn plan c.places-places.result.now c.loop-i.i c.places-places.ensures.value c.loop-i-test.true in
     let x = place_at c.places-places.result.now c.loop-i.i in
     let few : x.start + x.bins < 65536 = omega (arith, t.inside, plan.few_bins) in
     search rules
@@ -18,13 +18,13 @@ overflow_add-own g c =
 pub offset_bounds-sums-place : goal.offset_bounds-sums-place
 offset_bounds-sums-place g c =
     let plan = c.args.plan.now in
-    let t = turn plan c.places-places.result.now c.loop-i.i c.places-places.ensures c.loop-i-test.true in
+    let t = turn plan c.places-places.result.now c.loop-i.i c.places-places.ensures.value c.loop-i-test.true in
     omega (arith, t.inside, plan.full, c.requires)
 
 pub slice_bounds-own-end : goal.slice_bounds-own-end
 slice_bounds-own-end g c =
     let plan = c.args.plan.now in
-    let t = turn plan c.places-places.result.now c.loop-i.i c.places-places.ensures c.loop-i-test.true in
+    let t = turn plan c.places-places.result.now c.loop-i.i c.places-places.ensures.value c.loop-i-test.true in
     let x = place_at c.places-places.result.now c.loop-i.i in
     let fits : x.start + x.bins ≤ length c.args.sums.now = omega (arith, t.inside, plan.full, c.requires) in
     search rules
@@ -33,7 +33,7 @@ pub loop-i-preserved : goal.loop-i-preserved
 loop-i-preserved g c =
     let plan = c.args.plan.now in
     let sums = c.args.sums.now in
-    let t = turn plan c.places-places.result.now c.loop-i.i c.places-places.ensures c.loop-i-test.true in
+    let t = turn plan c.places-places.result.now c.loop-i.i c.places-places.ensures.value c.loop-i-test.true in
     let place = place_at c.places-places.result.now c.loop-i.i in
     let fits : place.start + place.bins ≤ length sums = omega (arith, t.inside, plan.full, c.requires) in
     let all : place.bins ≤ c.loop-b.b = omega (arith, length-between sums place.start (place.start + place.bins) fits, c.loop-b-test.false) in
@@ -43,7 +43,7 @@ pub returns-then-not-same : goal.returns-then-not-same
 returns-then-not-same g c =
     let plan = c.args.plan.now in
     let sums = c.args.sums.now in
-    let t = turn plan c.places-places.result.now c.loop-i.i c.places-places.ensures c.loop-i-test.true in
+    let t = turn plan c.places-places.result.now c.loop-i.i c.places-places.ensures.value c.loop-i-test.true in
     let place = place_at c.places-places.result.now c.loop-i.i in
     let at = place.start + c.loop-b.b in
     let fits : place.start + place.bins ≤ length sums = omega (arith, t.inside, plan.full, c.requires) in
@@ -61,6 +61,6 @@ returns-then-not-same g c =
 pub returns-after-loop-i : goal.returns-after-loop-i
 returns-after-loop-i g c =
     let plan = c.args.plan.now in
-    let e = ap length c.places-places.ensures in
+    let e = ap length c.places-places.ensures.value in
     let all = all_starts plan c.loop-i.i (omega (arith, c.loop-i.auto.i-end)) (omega (arith, c.loop-i-test.false)) in
     none_left g.K.Kind c.args.sums.now (bins_of (shape plan)) (λ x l. c.loop-i.invariant x (omega arith))

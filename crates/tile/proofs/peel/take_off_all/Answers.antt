@@ -28,7 +28,7 @@ loop-i-init g c = record {
 pub overflow_add-at : goal.overflow_add-at
 overflow_add-at g c =
     let plan = c.args.plan.now in
-    let t = turn plan c.places-places.result.now c.loop-i.i c.places-places.ensures c.loop-i-test.true in
+    let t = turn plan c.places-places.result.now c.loop-i.i c.places-places.ensures.value c.loop-i-test.true in
     let lies = lies_here plan c.places-places.result.now c.loop-i.i c.args.pixel c.start.result c.bin_of.result c.columns-columns.result c.rows-rows.result t
     c.columns-columns.ensures c.rows-rows.ensures c.requires.pixel c.start.ensures c.bin_of.ensures.lies in
     omega (arith, lies.below, t.next, t.inside, plan.few_bins)
@@ -36,7 +36,7 @@ overflow_add-at g c =
 pub take_off-requires : goal.take_off-requires
 take_off-requires g c =
     let plan = c.args.plan.now in
-    let t = turn plan c.places-places.result.now c.loop-i.i c.places-places.ensures c.loop-i-test.true in
+    let t = turn plan c.places-places.result.now c.loop-i.i c.places-places.ensures.value c.loop-i-test.true in
     let at = c.start.result + c.bin_of.result in
     let lies = lies_here plan c.places-places.result.now c.loop-i.i c.args.pixel c.start.result c.bin_of.result c.columns-columns.result c.rows-rows.result t
     c.columns-columns.ensures c.rows-rows.ensures c.requires.pixel c.start.ensures c.bin_of.ensures.lies in
@@ -62,7 +62,7 @@ loop-i-preserved g c =
     let i = c.loop-i.i in
     let cell = c.args.pixel.cell in
     let v = c.args.v in
-    let t = turn plan c.places-places.result.now i c.places-places.ensures c.loop-i-test.true in
+    let t = turn plan c.places-places.result.now i c.places-places.ensures.value c.loop-i-test.true in
     let first = world_of c.args.state.now (told T s c.args.tally.now c.args.tables.now) in
     let before = world_of c.loop-i.state (told T s c.loop-i.tally c.loop-i.tables) in
     let after = world_of c.if-is_whole.state (told T s c.if-is_whole.tally c.if-is_whole.tables) in
@@ -103,7 +103,7 @@ loop-i-preserved g c =
 pub returns : goal.returns
 returns g c =
     let plan = c.args.plan.now in
-    let e = ap length c.places-places.ensures in
+    let e = ap length c.places-places.ensures.value in
     let all = all_starts plan c.loop-i.i (omega (arith, c.loop-i.auto.i-end)) (omega (arith, c.loop-i-test.false)) in
     record {
       lent = c.loop-i.invariant.lent;

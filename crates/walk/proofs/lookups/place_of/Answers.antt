@@ -1,4 +1,5 @@
-use Rattle.std.proofs.Common.{◌≡◌, ◌+◌, ◌-◌, ◌<◌, length, ap, ◌∙◌, arith, rules}
+use Rattle.std.proofs.Common.{◌≡◌, ◌+◌, ◌-◌, ◌<◌, ◌≤◌, length, ap, ◌∙◌, arith, rules}
+use Rattle.mojette.specs.Bounds.{most_positions}
 use Rattle.law.specs.Positions.{place_at, bin_at}
 use Rattle.plan.specs.Laid.{records_of}
 use Rattle.plan.specs.Laid.{place_at as nth}
@@ -11,8 +12,8 @@ pub overflow_add-place : goal.overflow_add-place
 overflow_add-place c =
     let plan = c.args.plan.now in
     let ys = c.places-place-items.result.now in
-    let t = turn plan ys c.loop-i.i c.places-place-items.ensures c.loop-i-test.true in
-    let m : (nth ys c.loop-i.i).start + (nth ys c.loop-i.i).bins < 65536 = omega (arith, t.inside, plan.few_bins) in
+    let t = turn plan ys c.loop-i.i c.places-place-items.ensures.value c.loop-i-test.true in
+    let m : (nth ys c.loop-i.i).start + (nth ys c.loop-i.i).bins ≤ most_positions = omega (arith, t.inside, plan.few_bins) in
     search rules
 
 pub returns-then-at-place-clause-is : goal.returns-then-at-place-clause-is
@@ -22,7 +23,7 @@ returns-then-at-place-clause-is c =
     let i = c.loop-i.i in
     let at = c.args.at in
     let b = at - (nth ys i).start in
-    let t = turn plan ys i c.places-place-items.ensures c.loop-i-test.true in
+    let t = turn plan ys i c.places-place-items.ensures.value c.loop-i-test.true in
     let x = nth (places_of plan) i in
     let start = ap (λ z. z.start) t.same in
     let size = ap (λ z. z.bins) t.same in
@@ -34,12 +35,12 @@ returns-then-at-place-clause-is c =
 
 pub loop-i-preserved : goal.loop-i-preserved
 loop-i-preserved c =
-    let t = turn c.args.plan.now c.places-place-items.result.now c.loop-i.i c.places-place-items.ensures c.loop-i-test.true in
+    let t = turn c.args.plan.now c.places-place-items.result.now c.loop-i.i c.places-place-items.ensures.value c.loop-i-test.true in
     omega (arith, t.next, c.if-at-place.false)
 
 pub returns : goal.returns
 returns c =
     let plan = c.args.plan.now in
-    let e = ap length c.places-place-items.ensures in
+    let e = ap length c.places-place-items.ensures.value in
     let all = all_starts plan c.loop-i.i (omega (arith, c.loop-i.auto.i-end)) (omega (arith, c.loop-i-test.false)) in
     record { is = stands_nowhere (shape plan) c.args.at (omega (arith, c.loop-i.invariant)); stands = omega (arith, c.loop-i.invariant) }

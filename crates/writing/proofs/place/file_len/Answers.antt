@@ -7,14 +7,14 @@ use Rattle.writing.proofs.OfPlaces.{lines_more}
 use Rattle.writing.proofs.place.file_len.Goals as goal
 
 pub place_len-len-requires : goal.place_len-len-requires
-place_len-len-requires g c = bins_there c.args.plan.now c.places-place-items.result.now c.places-place-items.ensures c.loop-place.place-index c.loop-place-test.true
+place_len-len-requires g c = bins_there c.args.plan.now c.places-place-items.result.now c.places-place-items.ensures.value c.loop-place.place-index c.loop-place-test.true
 
 pub loop-place-preserved : goal.loop-place-preserved
 loop-place-preserved g c = (
   λ m same.
       let ys = c.places-place-items.result.now in
       let i = c.loop-place.place-index in
-      let s = stands c.args.plan.now ys c.places-place-items.ensures i c.loop-place-test.true m same in
+      let s = stands c.args.plan.now ys c.places-place-items.ensures.value i c.loop-place-test.true m same in
       let more = lines_more g.K.Kind g.K.Coded m.P m.Q m.places i s.inside in
       let here = c.place_len-len.ensures.value m i s in
       omega (arith, c.loop-place.invariant.0 m same, here, ap length more, length-append (place_lines g.K.Kind g.K.Coded m.P m.Q (take i m.places)) (place_line g.K.Kind g.K.Coded m.P m.Q (place_at m i))),
@@ -23,6 +23,6 @@ loop-place-preserved g c = (
 
 pub returns : goal.returns
 returns g c = λ m same.
-    let n = places_count c.args.plan.now c.places-place-items.result.now c.places-place-items.ensures m same in
+    let n = places_count c.args.plan.now c.places-place-items.result.now c.places-place-items.ensures.value m same in
     let all = ap (λ xs. length (place_lines g.K.Kind g.K.Coded m.P m.Q xs)) (take_all c.loop-place.place-index m.places (omega (arith, n, c.loop-place-test.false))) in
     omega (arith, c.loop-place.invariant.0 m same, all, length-file g.K.Kind g.K.Coded m)

@@ -16,7 +16,7 @@ take_off-requires g c =
     let plan = c.args.self.now in
     let xs = c.places-place-items.result.now in
     let i = c.loop-place.place-index in
-    let e = c.places-place-items.ensures in
+    let e = c.places-place-items.ensures.value in
     let l = c.loop-place-test.true in
     record {
       room = omega (arith, c.requires.room);
