@@ -1,6 +1,6 @@
 -- What the lexer gives, and how a call's result is compared with what a reader gives.
 use denote.Ref.{Bor}
-use Rattle.std.specs.Prelude.{◌≡◌, ℕ, ◌-◌, Bool, true, cond, is_some, ◌⊎◌, List, [], ◌∷◌, length, drop, Some, None, Ok, Err, Option, Result, ◌==◌}
+use Rattle.std.specs.Prelude.{◌≡◌, ℕ, ◌-◌, Bool, true, cond, is_some, ◌⊎◌, List, [], ◌∷◌, length, drop, codes as text, Some, None, Ok, Err, Option, Result, ◌==◌}
 use Rattle.mojette.specs.declared.fault.Reason.{Reason}
 use Rattle.mojette.specs.declared.fault.Reason.TheVariants as reasons
 use Rattle.mojette.specs.declared.fault.TextFault.{TextFault}
@@ -9,8 +9,6 @@ use Rattle.format.specs.Readers.{Worth, good, bad, Parsed, done, fault, Reader}
 use Rattle.samples.specs.Names.{mark, IsWord}
 use Rattle.format.specs.Tokens.{token, after}
 use Rattle.bracket.specs.declared.lexer.Lexer.{Lexer}
-use Rattle.bracket.specs.declared.lexer.Mark.{Mark}
-use Rattle.bracket.specs.declared.lexer.Mark.TheVariants.{Open, Close, Space, Newline}
 use Rattle.bracket.specs.declared.lexer.Token.{Token}
 use Rattle.bracket.specs.declared.lexer.Token.TheVariants as tokens
 
@@ -22,29 +20,34 @@ left l = drop l.at l.text.now
 abbrev pub place : Lexer → ℕ
 place l = length l.text.now - length (left l)
 
--- the byte of a mark
-abbrev pub mark_byte : Mark → ℕ
-mark_byte Open = 40
-mark_byte Close = 41
-mark_byte Space = 32
-mark_byte Newline = 10
-
--- the mark that a byte is
-abbrev pub mark_of : ℕ → Option Mark
+-- the token that a byte is by itself
+abbrev pub mark_of : ℕ → Option Token
 mark_of b =
-    cond (b == 40) (Some Open)
-    (cond (b == 41) (Some Close)
-    (cond (b == 32) (Some Space)
-    (cond (b == 10) (Some Newline) None)))
+    cond (b == 40) (Some tokens.Open)
+    (cond (b == 41) (Some tokens.Close)
+    (cond (b == 32) (Some tokens.Space)
+    (cond (b == 10) (Some tokens.Newline) None)))
 
 abbrev pub is_marked : ℕ → Bool
 is_marked b = is_some (mark_of b)
 
--- t is the first token of bs
-abbrev pub IsToken : List ℕ → Token → Type 0
-IsToken bs (tokens.Mark m) = token bs ≡ mark_byte m ∷ []
-IsToken bs tokens.End = token bs ≡ []
-IsToken bs (tokens.Word w) = (w.now ≡ token bs) × IsWord (token bs)
+-- t is the first token of bs, which begins at a byte: a word has it
+abbrev pub IsToken : ℕ → List ℕ → Token → Type 0
+IsToken byte bs tokens.Open = token bs ≡ text "("
+IsToken byte bs tokens.Close = token bs ≡ text ")"
+IsToken byte bs tokens.Space = token bs ≡ text " "
+IsToken byte bs tokens.Newline = token bs ≡ 10 ∷ []
+IsToken byte bs tokens.End = token bs ≡ []
+IsToken byte bs (tokens.Word w at) = (w.now ≡ token bs) × (at ≡ byte) × IsWord (token bs)
+
+-- how many bytes a token has
+abbrev pub token_len : Token → ℕ
+token_len tokens.Open = 1
+token_len tokens.Close = 1
+token_len tokens.Space = 1
+token_len tokens.Newline = 1
+token_len tokens.End = 0
+token_len (tokens.Word w at) = length w.now
 
 -- what a word is worth, as a call that reads it answers, where it keeps something by which the value is found
 abbrev pub worth_as : {A B : Type 0} → (A → B) → Result A Reason → Worth B

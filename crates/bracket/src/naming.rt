@@ -4,7 +4,7 @@ ghost use Rattle.bracket.specs.Kinds.{kind_word, kind_reader, kind_named, Named,
 ghost use Rattle.bracket.specs.Lexing.{Reads, worth_of};
 
 use crate::kind_name::KindName;
-use crate::lexer::{Lexer, Mark};
+use crate::lexer::Lexer;
 use mojette::{Reason, TextFault};
 
 // The kind that has this name.
@@ -24,9 +24,9 @@ impl<'a> Lexer<'a> {
     fn kind(&mut self) -> Result<KindName, TextFault>
         ensures { Reads kind_reader self.old result self.new }
     {
-        self.mark(Mark::Open)?;
+        self.open()?;
         self.word(b"tile")?;
-        self.mark(Mark::Space)?;
+        self.space()?;
         self.accept(kind_with)
     }
 }

@@ -7,7 +7,7 @@ ghost use Rattle.bracket.specs.Found.{found_from};
 ghost use Rattle.bracket.specs.Lexing.{ReadsAs};
 ghost use Rattle.bracket.specs.Lines.{is_bins, held_from, place_from, held_lines};
 
-use crate::lexer::{Lexer, Mark};
+use crate::lexer::Lexer;
 use crate::line::{Held, Holding, Line, Lines, Start};
 use mojette::{Direction, MOST_PLACES, Size, TextFault};
 use samples::Coded;
@@ -19,7 +19,7 @@ impl<'a> Lexer<'a> {
     {
         // So many turns: the codes are not in a list.
         for _i in 0..count {
-            self.mark(Mark::Space)?;
+            self.space()?;
             let _ = self.code::<K>()?;
         }
         Ok(())
@@ -36,7 +36,7 @@ impl<'a> Lexer<'a> {
                 Ok(Held::Bins(begin))
             }
             Holding::Lost => {
-                self.mark(Mark::Space)?;
+                self.space()?;
                 let cause = self.cause()?;
                 Ok(Held::Lost(cause))
             }
@@ -47,13 +47,13 @@ impl<'a> Lexer<'a> {
     fn held<K: Coded>(&mut self, bins: usize) -> Result<Held, TextFault>
         ensures { ReadsAs (held_from K.Kind K.Coded.own self.old.text.now bins) (λ n. held_reader K.Coded.own n bins) self.old result self.new }
     {
-        self.mark(Mark::Space)?;
-        self.mark(Mark::Open)?;
+        self.space()?;
+        self.open()?;
         let holding = self.holding()?;
         let held = self.sums::<K>(bins, holding)?;
-        self.mark(Mark::Close)?;
-        self.mark(Mark::Close)?;
-        self.mark(Mark::Newline)?;
+        self.close()?;
+        self.close()?;
+        self.newline()?;
         Ok(held)
     }
 
@@ -70,8 +70,8 @@ impl<'a> Lexer<'a> {
     fn finish<K: Coded>(&mut self) -> Result<(), TextFault>
         ensures { ReadsAs (λ _. []) (λ n. end_reader {A = Place K} n) self.old result self.new }
     {
-        self.mark(Mark::Close)?;
-        self.mark(Mark::Newline)?;
+        self.close()?;
+        self.newline()?;
         self.end()
     }
 
@@ -95,16 +95,16 @@ impl<'a> Lexer<'a> {
     pub(crate) fn head<K: Coded>(&mut self) -> Result<Size, TextFault>
         ensures { ReadsAs (λ size. (size.columns, size.rows)) (head_reader K.Coded.name) self.old result self.new }
     {
-        self.mark(Mark::Open)?;
+        self.open()?;
         self.word(b"tile")?;
-        self.mark(Mark::Space)?;
+        self.space()?;
         self.word(K::kind_name())?;
-        self.mark(Mark::Space)?;
+        self.space()?;
         let columns = self.side()?;
-        self.mark(Mark::Space)?;
+        self.space()?;
         let rows = self.side()?;
-        self.mark(Mark::Close)?;
-        self.mark(Mark::Newline)?;
+        self.close()?;
+        self.newline()?;
         Ok(Size { columns, rows })
     }
 }

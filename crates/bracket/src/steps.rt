@@ -2,18 +2,16 @@
 ghost use Rattle.std.specs.Prelude.{◌≡◌, true, IfOk};
 ghost use Rattle.std.specs.NonZero.{non_zero_u8_get};
 ghost use Rattle.mojette.specs.Meaning.{side_ok};
-ghost use Rattle.format.specs.Format.{size_word, cause_word, p_word, q_word, code_word, bins_word, line_word, direction_reader};
+ghost use Rattle.format.specs.Format.{size_word, cause_word, p_word, q_word, bins_word, line_word, direction_reader};
 ghost use Rattle.format.specs.Readers.{accept, expect};
 ghost use Rattle.samples.specs.Names.{IsWord};
 ghost use Rattle.bracket.specs.Lexing.{Reads, ReadsAs};
 ghost use Rattle.bracket.specs.Lines.{is_bins, is_dir, start_reader};
 
-use crate::lexer::{Lexer, Mark};
+use crate::lexer::Lexer;
 use crate::line::{Holding, Start};
-use crate::tokens::wrong;
-use crate::words::{cause_of, exactly, first_code, holding_of, p_of, q_of, side_of, start_of};
+use crate::words::{cause_of, exactly, holding_of, p_of, q_of, side_of, start_of};
 use mojette::{Direction, TextFault};
-use samples::Coded;
 use std::num::NonZeroU8;
 
 impl<'a> Lexer<'a> {
@@ -58,9 +56,9 @@ impl<'a> Lexer<'a> {
     pub(crate) fn direction(&mut self, last: Option<Direction>) -> Result<Direction, TextFault>
         ensures { Reads (λ n. direction_reader n last) self.old result self.new }
     {
-        self.mark(Mark::Space)?;
+        self.space()?;
         let p = self.p()?;
-        self.mark(Mark::Space)?;
+        self.space()?;
         self.q(p, last)
     }
 
@@ -76,7 +74,7 @@ impl<'a> Lexer<'a> {
         ensures reads { ReadsAs is_dir (λ n. start_reader n last room) self.old result self.new }
         ensures room { IfOk result (λ start. (is_dir start ≡ true → room ≡ true)) }
     {
-        self.mark(Mark::Open)?;
+        self.open()?;
         self.dir_or_end(last.is_none(), room)
     }
 
@@ -86,16 +84,5 @@ impl<'a> Lexer<'a> {
         ensures room { IfOk result (λ start. (is_dir start ≡ true → room ≡ true)) }
     {
         self.accept(|word| start_of(word, first, room))
-    }
-
-    // The code of a sample.
-    pub(crate) fn code<K: Coded>(&mut self) -> Result<K, TextFault>
-        ensures { Reads (λ n. accept n (code_word K.Coded.own)) self.old result self.new }
-    {
-        let Some(sample) = first_code::<K>(&self.text[self.at..]) else {
-            return Err(wrong(self.byte()));
-        };
-        self.at += K::digits();
-        Ok(sample)
     }
 }
