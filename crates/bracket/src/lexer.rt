@@ -1,7 +1,8 @@
 // Tokens of a text. A file of its own, so that `specs/` can name the types.
 ghost use Rattle.std.specs.Prelude.{◌≤◌, length};
 
-/// A token: a bracket, a space, a line end, the end of the text, or a word, which is a part of the text with the place of its first byte.
+/// A token: a bracket, a space, a line end, the end of the text, or a word: a part of the text, with the place of
+/// its first byte.
 #[derive(Clone, Copy)]
 pub(crate) enum Token<'a> {
     Open,

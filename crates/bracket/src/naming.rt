@@ -3,9 +3,10 @@ ghost use Rattle.std.specs.Prelude.{◌≡◌, None};
 ghost use Rattle.bracket.specs.Kinds.{kind_word, kind_reader, kind_named, Named, Unread};
 ghost use Rattle.bracket.specs.Lexing.{Reads, worth_of};
 
+use crate::fault_in_text::FaultInText;
 use crate::kind_name::KindName;
 use crate::lexer::Lexer;
-use mojette::{Reason, TextFault};
+use mojette::Reason;
 
 // The kind that has this name.
 fn kind_with(name: &[u8]) -> Result<KindName, Reason>
@@ -21,7 +22,7 @@ fn kind_with(name: &[u8]) -> Result<KindName, Reason>
 
 impl<'a> Lexer<'a> {
     // The start of the first line of a file, up to the kind's name.
-    fn kind(&mut self) -> Result<KindName, TextFault>
+    fn kind(&mut self) -> Result<KindName, FaultInText<'a>>
         ensures { Reads kind_reader self.old result self.new }
     {
         self.open()?;

@@ -1,13 +1,13 @@
 // Taking tokens off a text, each expected one or a fault.
 ghost use Rattle.std.specs.Prelude.{◌≡◌, ◌≤◌, [], ◌∷◌, length, not, take_while, codes as text};
 ghost use Rattle.std.specs.Fn.{FnOnceReturnsAt};
-ghost use Rattle.mojette.specs.declared.fault.Reason.TheVariants as reasons;
 ghost use Rattle.samples.specs.Reading.{read_code};
 ghost use Rattle.format.specs.Format.{code_word};
 ghost use Rattle.format.specs.Readers.{accept, expect};
 ghost use Rattle.format.specs.Tokens.{after};
 ghost use Rattle.bracket.specs.Lexing.{left, place, mark_of, is_marked, token_len, IsToken, Reads, Takes, TakesWord};
 
+use crate::fault_in_text::FaultInText;
 use crate::lexer::{Lexer, Token};
 use mojette::{Reason, TextFault};
 use samples::Coded;
@@ -21,16 +21,6 @@ fn run_len(text: &[u8]) -> usize
     text.iter()
         .take_while(|b| Token::mark(**b).is_none())
         .count()
-}
-
-/// The token at a byte is not the one that belongs there.
-fn wrong(byte: usize) -> TextFault
-    ensures { result ≡ record { byte = byte; reason = reasons.Token } }
-{
-    TextFault {
-        byte,
-        reason: Reason::Token,
-    }
 }
 
 impl<'a> Token<'a> {
@@ -89,6 +79,18 @@ impl<'a> Lexer<'a> {
         self.at
     }
 
+    /// The fault of the token at a byte, which is wrong for this reason.
+    fn fault(&self, byte: usize, reason: Reason) -> FaultInText<'a>
+        ensures text { result.text.now ≡ self.now.text.now }
+        ensures fault { result.fault ≡ record { byte = byte; reason = reason } }
+    {
+        FaultInText {
+            text: self.text,
+            fault: TextFault { byte, reason },
+        }
+    }
+
+    /// The next token, which is passed.
     fn next(&mut self) -> Token<'a>
         ensures is { IsToken (place self.old) (left self.old) result }
         ensures rest { left self.new ≡ after (left self.old) }
@@ -100,81 +102,82 @@ impl<'a> Lexer<'a> {
         token
     }
 
-    // Each kind of token that a file wants at some place is let through here, or is a fault with the place of the token that stands there.
+    // Below each token that a file may want is let through by a `let .. else` of its own. The else branch makes the
+    // fault of the token that stands there in its place.
 
     /// The bracket that opens a form.
-    pub(crate) fn open(&mut self) -> Result<(), TextFault>
+    pub(crate) fn open(&mut self) -> Result<(), FaultInText<'a>>
         ensures { Reads (λ n. expect n (text "(")) self.old result self.new }
     {
         let byte = self.byte();
         let Token::Open = self.next() else {
-            return Err(wrong(byte));
+            return Err(self.fault(byte, Reason::Token));
         };
         Ok(())
     }
 
     /// The bracket that closes a form.
-    pub(crate) fn close(&mut self) -> Result<(), TextFault>
+    pub(crate) fn close(&mut self) -> Result<(), FaultInText<'a>>
         ensures { Reads (λ n. expect n (text ")")) self.old result self.new }
     {
         let byte = self.byte();
         let Token::Close = self.next() else {
-            return Err(wrong(byte));
+            return Err(self.fault(byte, Reason::Token));
         };
         Ok(())
     }
 
     /// One space.
-    pub(crate) fn space(&mut self) -> Result<(), TextFault>
+    pub(crate) fn space(&mut self) -> Result<(), FaultInText<'a>>
         ensures { Reads (λ n. expect n (text " ")) self.old result self.new }
     {
         let byte = self.byte();
         let Token::Space = self.next() else {
-            return Err(wrong(byte));
+            return Err(self.fault(byte, Reason::Token));
         };
         Ok(())
     }
 
     /// The end of a line.
-    pub(crate) fn newline(&mut self) -> Result<(), TextFault>
+    pub(crate) fn newline(&mut self) -> Result<(), FaultInText<'a>>
         ensures { Reads (λ n. expect n (10 ∷ [])) self.old result self.new }
     {
         let byte = self.byte();
         let Token::Newline = self.next() else {
-            return Err(wrong(byte));
+            return Err(self.fault(byte, Reason::Token));
         };
         Ok(())
     }
 
     /// The end of the text.
-    pub(crate) fn end(&mut self) -> Result<(), TextFault>
+    pub(crate) fn end(&mut self) -> Result<(), FaultInText<'a>>
         ensures { Reads (λ n. expect n ([])) self.old result self.new }
     {
         let byte = self.byte();
         let Token::End = self.next() else {
-            return Err(wrong(byte));
+            return Err(self.fault(byte, Reason::Token));
         };
         Ok(())
     }
 
     /// The next word, with the place of its first byte.
-    fn take_word(&mut self) -> Result<(&'a [u8], usize), TextFault>
+    fn take_word(&mut self) -> Result<(&'a [u8], usize), FaultInText<'a>>
         ensures { TakesWord self.old result self.new }
     {
         let byte = self.byte();
         let Token::Word { text, byte } = self.next() else {
-            return Err(wrong(byte));
+            return Err(self.fault(byte, Reason::Token));
         };
         Ok((text, byte))
     }
 
-    /// The code of a sample.
-    pub(crate) fn code<K: Coded>(&mut self) -> Result<K, TextFault>
+    /// The code of a sample: a word that is read as one.
+    pub(crate) fn code<K: Coded>(&mut self) -> Result<K, FaultInText<'a>>
         ensures { Reads (λ n. accept n (code_word K.Coded.own)) self.old result self.new }
     {
         let (word, byte) = self.take_word()?;
         let Some(sample) = read_code::<K>(word) else {
-            return Err(wrong(byte));
+            return Err(self.fault(byte, Reason::Token));
         };
         Ok(sample)
     }
@@ -183,14 +186,14 @@ impl<'a> Lexer<'a> {
     pub(crate) fn accept<T, F: FnOnce(&[u8]) -> Result<T, Reason>>(
         &mut self,
         read: F,
-    ) -> Result<T, TextFault>
+    ) -> Result<T, FaultInText<'a>>
         requires { F.IsAlwaysCallable read }
         ensures { Takes (FnOnceReturnsAt F.FnOnce read) self.old result self.new }
     {
         let (word, byte) = self.take_word()?;
         match read(word) {
             Ok(value) => Ok(value),
-            Err(reason) => Err(TextFault { byte, reason }),
+            Err(reason) => Err(self.fault(byte, reason)),
         }
     }
 }
