@@ -49,7 +49,7 @@ module _ {S : Type 0} (K : Operations S) (C : Codes S) (l : Lexer) where
         → FileRead value (Err e) m
     stops_at_lines value lines m e r = record {
       gives = opened ∙ ap (λ x. then x (λ xs. done (record { P = P; Q = Q; places = xs }))) r.gives;
-      whole = r.whole ∙ head.same;
+      in_text = r.in_text ∙ head.same;
       same = r.same ∙ head.same;
     }
 
@@ -60,7 +60,7 @@ module _ {S : Type 0} (K : Operations S) (C : Codes S) (l : Lexer) where
       gives =
           opened ∙ ap (λ x. then x (λ xs. done (record { P = P; Q = Q; places = xs }))) r.gives
           ∙ ap (λ t. done (meaning_from K C t z (held_lines lines)) (left m)) head.same;
-      whole = tt;
+      in_text = tt;
       same = r.same ∙ head.same;
     }
 
@@ -82,4 +82,4 @@ module _ {S : Type 0} (K : Operations S) (C : Codes S) (l m : Lexer) (t : List �
 
   pub fault_told : (e : FaultInText) → Whole (Err e) → file_read meant (Err (file_fault e)) ≡ read_file C t
   fault_told e h =
-      ap (λ u. refused (1 + line_ends (take e.fault.byte u)) e.fault.byte (reason_number e.fault.reason)) (h.whole ∙ same) ∙ whole (Err e) h
+      ap (λ u. refused (1 + line_ends (take e.fault.byte u)) e.fault.byte (reason_number e.fault.reason)) (h.in_text ∙ same) ∙ whole (Err e) h

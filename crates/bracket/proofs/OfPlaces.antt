@@ -110,7 +110,7 @@ module _ {S : Type 0} (K : Operations S) (C : Codes S) (z : Size) where
         gives =
             at_start
             ∙ ap (λ x. before (held lines) (then x (line_rest (length t) last (most_places - length lines)))) (reads_as_in is_dir (λ n. start_reader n last open') l m (Err e) t so_far.same r);
-        whole = r.whole ∙ so_far.same;
+        in_text = r.in_text ∙ so_far.same;
         same = r.same ∙ so_far.same;
       }
 
@@ -135,7 +135,7 @@ module _ {S : Type 0} (K : Operations S) (C : Codes S) (z : Size) where
               → LinesRead value (Err e) m
           stops_at_end value m e r = record {
             gives = at_end ∙ ap (before (held lines)) (reads_as_in _ (λ n. end_reader n) k m (Err e) t (begun.same ∙ so_far.same) r);
-            whole = r.whole ∙ begun.same ∙ so_far.same;
+            in_text = r.in_text ∙ begun.same ∙ so_far.same;
             same = r.same ∙ begun.same ∙ so_far.same;
           }
 
@@ -146,7 +146,7 @@ module _ {S : Type 0} (K : Operations S) (C : Codes S) (z : Size) where
                 at_end
                 ∙ ap (before (held lines)) (reads_as_in _ (λ n. end_reader n) k m (Ok tt) t (begun.same ∙ so_far.same) r)
                 ∙ ap (λ ys. done ys (left m)) (append-nil (held lines) ∙ ap held (sym e));
-            whole = tt;
+            in_text = tt;
             same = r.same ∙ begun.same ∙ so_far.same;
           }
 
@@ -169,7 +169,7 @@ module _ {S : Type 0} (K : Operations S) (C : Codes S) (z : Size) where
           pub stops_at_line : (value : Lines → List (Place S)) (m : Lexer) (e : FaultInText) → LineRead (Err e) m → LinesRead value (Err e) m
           stops_at_line value m e r = record {
             gives = at_line ∙ ap (λ x. before (held lines) (then x after_line)) (reads_as_in _ (λ n. dir_reader C n P Q last) k m (Err e) t (begun.same ∙ so_far.same) r);
-            whole = r.whole ∙ begun.same ∙ so_far.same;
+            in_text = r.in_text ∙ begun.same ∙ so_far.same;
             same = r.same ∙ begun.same ∙ so_far.same;
           }
 

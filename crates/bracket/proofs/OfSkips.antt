@@ -63,7 +63,7 @@ module _ {S : Type 0} (K : Operations S) (C : Codes S) where
         → Skips count start (Err e) m
     stops_at_space m e r = record {
       gives = only_fault _ _ _ (opened ∙ ap (λ x. only (then x (after_space (length l.text.now) (count - (i + 1))))) r.gives);
-      whole = r.whole ∙ passed.same;
+      in_text = r.in_text ∙ passed.same;
       same = r.same ∙ passed.same;
     }
 
@@ -80,7 +80,7 @@ module _ {S : Type 0} (K : Operations S) (C : Codes S) where
           → Skips count start (Err e) m
       stops_at_code m e r = record {
         gives = only_fault _ _ _ (at_code ∙ ap (λ x. only (then x (after_code (length k.text.now) (count - (i + 1))))) r.gives);
-        whole = r.whole ∙ spaced.same ∙ passed.same;
+        in_text = r.in_text ∙ spaced.same ∙ passed.same;
         same = r.same ∙ spaced.same ∙ passed.same;
       }
 
@@ -101,6 +101,6 @@ module _ {S : Type 0} (K : Operations S) (C : Codes S) where
       let d = only_done (codes_reader C (length start.text.now) count (left start)) (left l) (sym p.gives ∙ ap (λ k. only (codes_reader C (length l.text.now) k (left l))) e) in
       record {
         gives = d.1 ∙ ap (λ xs. done xs (left l)) (codes_found C K _ count start.at start.text.now d.0 (left l) d.1);
-        whole = tt;
+        in_text = tt;
         same = p.same;
       }

@@ -84,16 +84,17 @@ IsWordAt byte bs (Err f) = NoWord (token bs) × (f ≡ record { byte = byte; rea
 -- the lexer l becomes m by one token, which is to be a word
 pub record TakesWord (l : Lexer) (r : Result (Bor (List ℕ) × ℕ) FaultInText) (m : Lexer) : Type 0 where
   pub is : IsWordAt (place l) (left l) (fault_of r)
-  pub whole : IsInText l r
+  pub in_text : IsInText l r
   pub rest : left m ≡ after (left l)
   pub same : m.text.now ≡ l.text.now
 
 -- by a word, of which `reads` says what the answer r may be, or by another token, which is wrong
-pub record Takes {A : Type 0} (reads : List ℕ → Result A Reason → Type 0) (l : Lexer) (r : Result A FaultInText) (m : Lexer) : Type 0 where
+pub record Takes {A : Type 0} (reads : List ℕ → Result A Reason → Type 0) (l : Lexer) (r : Result A FaultInText) (m : Lexer)
+    : Type 0 where
   pub answers :
       ((a : Result A Reason) × reads (token (left l)) a × (fault_of r ≡ at_byte (place l) a))
       ⊎ (NoWord (token (left l)) × (fault_of r ≡ at_byte (place l) (Err reasons.Token)))
-  pub whole : IsInText l r
+  pub in_text : IsInText l r
   pub rest : left m ≡ after (left l)
   pub same : m.text.now ≡ l.text.now
 
@@ -102,10 +103,12 @@ abbrev pub parsed_as : {A B : Type 0} → (A → B) → Result A TextFault → L
 parsed_as value (Ok a) bs = done (value a) bs
 parsed_as value (Err f) bs = fault f.byte (reason_number f.reason)
 
--- the lexer l becomes m as the reader says, and r keeps something by which the value that the reader gives is found in the text
-pub record ReadsAs {A B : Type 0} (value : A → B) (f : ℕ → Reader B) (l : Lexer) (r : Result A FaultInText) (m : Lexer) : Type 0 where
+-- the lexer l becomes m as the reader says, and r keeps something by which the value that the reader gives is found in
+-- the text
+pub record ReadsAs {A B : Type 0} (value : A → B) (f : ℕ → Reader B) (l : Lexer) (r : Result A FaultInText) (m : Lexer)
+    : Type 0 where
   pub gives : f (length l.text.now) (left l) ≡ parsed_as value (fault_of r) (left m)
-  pub whole : IsInText l r
+  pub in_text : IsInText l r
   pub same : m.text.now ≡ l.text.now
 
 -- and r is what the reader gives

@@ -11,7 +11,7 @@ use crate::line::Lines;
 use mojette::{FileFault, Size};
 use samples::Coded;
 
-// The line of a byte of the text, from 1.
+/// The line of a byte of the text, from 1.
 fn line_of(text: &[u8], byte: usize) -> usize
     ensures { result ≡ 1 + line_ends (take byte text.now) }
 {
@@ -32,9 +32,10 @@ impl<'a> From<FaultInText<'a>> for FileFault {
 }
 
 impl<'a> Lexer<'a> {
-    // A whole file.
+    /// A whole file.
     fn file<K: Coded>(&mut self) -> Result<(Size, Lines), FaultInText<'a>>
-        ensures { ReadsAs (λ v. meaning_from K.Kind K.Coded.own self.old.text.now v.0 (held_lines v.1)) (λ n. file_reader K.Coded.own n) self.old result self.new }
+        ensures { ReadsAs (λ v. meaning_from K.Kind K.Coded.own self.old.text.now v.0 (held_lines v.1))
+            (λ n. file_reader K.Coded.own n) self.old result self.new }
     {
         let size = self.head::<K>()?;
         let lines = self.places::<K>(size)?;
@@ -44,7 +45,8 @@ impl<'a> Lexer<'a> {
 
 /// Reads a whole file: a wrong token is told with its line.
 pub(crate) fn lines_of<K: Coded>(text: &[u8]) -> Result<(Size, Lines), FileFault>
-    ensures { file_read (λ v. meaning_from K.Kind K.Coded.own text.now v.0 (held_lines v.1)) result ≡ read_file K.Coded.own text.now }
+    ensures { file_read (λ v. meaning_from K.Kind K.Coded.own text.now v.0 (held_lines v.1)) result
+        ≡ read_file K.Coded.own text.now }
 {
     let mut lexer = Lexer::new(text);
     Ok(lexer.file::<K>()?)

@@ -8,7 +8,7 @@ use crate::kind_name::KindName;
 use crate::lexer::Lexer;
 use mojette::Reason;
 
-// The kind that has this name.
+/// The kind that has this name.
 fn kind_with(name: &[u8]) -> Result<KindName, Reason>
     ensures { worth_of result ≡ kind_word name.now }
 {
@@ -21,7 +21,7 @@ fn kind_with(name: &[u8]) -> Result<KindName, Reason>
 }
 
 impl<'a> Lexer<'a> {
-    // The start of the first line of a file, up to the kind's name.
+    /// The start of the first line of a file, up to the kind's name.
     fn kind(&mut self) -> Result<KindName, FaultInText<'a>>
         ensures { Reads kind_reader self.old result self.new }
     {
@@ -32,7 +32,7 @@ impl<'a> Lexer<'a> {
     }
 }
 
-// Which kind a text names. A file of a kind names it, and where none is named the readers of all three give the same fault.
+/// Which kind a text names. A file of a kind names it, and where none is named the readers of all three give the same fault.
 pub fn kind_of(text: &[u8]) -> Option<KindName>
     ensures named { result ≡ kind_named text.now }
     ensures files { Named text.now result }

@@ -14,9 +14,10 @@ use mojette::{Direction, MOST_PLACES, Size};
 use samples::Coded;
 
 impl<'a> Lexer<'a> {
-    // Passes `count` codes, each after a space.
+    /// Passes `count` codes, each after a space.
     fn skip_codes<K: Coded>(&mut self, count: usize) -> Result<(), FaultInText<'a>>
-        ensures { ReadsAs (λ _. found_from K.Kind K.Coded.own self.old.text.now self.old.at count) (λ n. codes_reader K.Coded.own n count) self.old result self.new }
+        ensures { ReadsAs (λ _. found_from K.Kind K.Coded.own self.old.text.now self.old.at count)
+            (λ n. codes_reader K.Coded.own n count) self.old result self.new }
     {
         // So many turns: the codes are not in a list.
         for _i in 0..count {
@@ -26,9 +27,10 @@ impl<'a> Lexer<'a> {
         Ok(())
     }
 
-    // What follows `bins` or `lost`: the codes of so many bins, or the cause.
+    /// What follows `bins` or `lost`: the codes of so many bins, or the cause.
     fn sums<K: Coded>(&mut self, bins: usize, holding: Holding) -> Result<Held, FaultInText<'a>>
-        ensures { ReadsAs (held_from K.Kind K.Coded.own self.old.text.now bins) (λ n. sums_reader K.Coded.own n bins (is_bins holding)) self.old result self.new }
+        ensures { ReadsAs (held_from K.Kind K.Coded.own self.old.text.now bins)
+            (λ n. sums_reader K.Coded.own n bins (is_bins holding)) self.old result self.new }
     {
         match holding {
             Holding::Bins => {
@@ -44,9 +46,10 @@ impl<'a> Lexer<'a> {
         }
     }
 
-    // What a place holds, with the line end.
+    /// What a place holds, with the line end.
     fn held<K: Coded>(&mut self, bins: usize) -> Result<Held, FaultInText<'a>>
-        ensures { ReadsAs (held_from K.Kind K.Coded.own self.old.text.now bins) (λ n. held_reader K.Coded.own n bins) self.old result self.new }
+        ensures { ReadsAs (held_from K.Kind K.Coded.own self.old.text.now bins)
+            (λ n. held_reader K.Coded.own n bins) self.old result self.new }
     {
         self.space()?;
         self.open()?;
@@ -58,20 +61,21 @@ impl<'a> Lexer<'a> {
         Ok(held)
     }
 
-    // What follows `(dir`, with the line end.
+    /// What follows `(dir`, with the line end.
     fn place<K: Coded>(
         &mut self,
         size: Size,
         last: Option<Direction>,
     ) -> Result<Line, FaultInText<'a>>
-        ensures { ReadsAs (place_from K.Kind K.Coded.own self.old.text.now size) (λ n. dir_reader K.Coded.own n size.columns size.rows last) self.old result self.new }
+        ensures { ReadsAs (place_from K.Kind K.Coded.own self.old.text.now size)
+            (λ n. dir_reader K.Coded.own n size.columns size.rows last) self.old result self.new }
     {
         let direction = self.direction(last)?;
         let held = self.held::<K>(size.bins(direction))?;
         Ok(Line { direction, held })
     }
 
-    // What follows `(end`.
+    /// What follows `(end`.
     fn finish<K: Coded>(&mut self) -> Result<(), FaultInText<'a>>
         ensures { ReadsAs (λ _. []) (λ n. end_reader {A = Place K} n) self.old result self.new }
     {
@@ -80,9 +84,10 @@ impl<'a> Lexer<'a> {
         self.end()
     }
 
-    // The lines after the first.
+    /// The lines after the first.
     pub(crate) fn places<K: Coded>(&mut self, size: Size) -> Result<Lines, FaultInText<'a>>
-        ensures { ReadsAs (λ lines. map (place_from K.Kind K.Coded.own self.old.text.now size) (held_lines lines)) (λ n. places_reader K.Coded.own n size.columns size.rows None most_places) self.old result self.new }
+        ensures { ReadsAs (λ lines. map (place_from K.Kind K.Coded.own self.old.text.now size) (held_lines lines))
+            (λ n. places_reader K.Coded.own n size.columns size.rows None most_places) self.old result self.new }
     {
         let mut lines = Lines::new();
         let mut last = None;
@@ -96,7 +101,7 @@ impl<'a> Lexer<'a> {
         Ok(lines)
     }
 
-    // The first line of a file.
+    /// The first line of a file.
     pub(crate) fn head<K: Coded>(&mut self) -> Result<Size, FaultInText<'a>>
         ensures { ReadsAs (λ size. (size.columns, size.rows)) (head_reader K.Coded.name) self.old result self.new }
     {

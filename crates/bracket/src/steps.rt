@@ -16,7 +16,7 @@ use mojette::Direction;
 use std::num::NonZeroU8;
 
 impl<'a> Lexer<'a> {
-    // The word `want`.
+    /// The word `want`.
     pub(crate) fn word(&mut self, want: &[u8]) -> Result<(), FaultInText<'a>>
         requires { IsWord want.now }
         ensures { Reads (λ n. expect n want.now) self.old result self.new }
@@ -24,7 +24,7 @@ impl<'a> Lexer<'a> {
         self.accept(|word| exactly(word, want))
     }
 
-    // The columns or the rows of a tile.
+    /// The columns or the rows of a tile.
     pub(crate) fn side(&mut self) -> Result<usize, FaultInText<'a>>
         ensures reads { Reads (λ n. accept n size_word) self.old result self.new }
         ensures range { IfOk result (λ side. side_ok side ≡ true) }
@@ -32,28 +32,28 @@ impl<'a> Lexer<'a> {
         self.accept(side_of)
     }
 
-    // Why a place is lost.
+    /// Why a place is lost.
     pub(crate) fn cause(&mut self) -> Result<NonZeroU8, FaultInText<'a>>
         ensures { ReadsAs non_zero_u8_get (λ n. accept n cause_word) self.old result self.new }
     {
         self.accept(cause_of)
     }
 
-    // The p of a direction.
+    /// The p of a direction.
     fn p(&mut self) -> Result<i32, FaultInText<'a>>
         ensures { Reads (λ n. accept n p_word) self.old result self.new }
     {
         self.accept(p_of)
     }
 
-    // The q of a direction with p, which is to be lawful and to stand after the last one.
+    /// The q of a direction with p, which is to be lawful and to stand after the last one.
     fn q(&mut self, p: i32, last: Option<Direction>) -> Result<Direction, FaultInText<'a>>
         ensures { Reads (λ n. accept n (q_word last p)) self.old result self.new }
     {
         self.accept(|word| q_of(word, p, last))
     }
 
-    // A direction, lawful and after the last one.
+    /// A direction, lawful and after the last one.
     pub(crate) fn direction(
         &mut self,
         last: Option<Direction>,
@@ -66,14 +66,14 @@ impl<'a> Lexer<'a> {
         self.q(p, last)
     }
 
-    // `bins` or `lost`.
+    /// `bins` or `lost`.
     pub(crate) fn holding(&mut self) -> Result<Holding, FaultInText<'a>>
         ensures { ReadsAs is_bins (λ n. accept n bins_word) self.old result self.new }
     {
         self.accept(holding_of)
     }
 
-    // The start of a line. The last direction is none at the first place.
+    /// The start of a line. The last direction is none at the first place.
     pub(crate) fn start(
         &mut self,
         last: Option<Direction>,
@@ -86,7 +86,7 @@ impl<'a> Lexer<'a> {
         self.dir_or_end(last.is_none(), room)
     }
 
-    // `dir` or `end`. An `end` at the first place, and a `dir` without room, are wrong.
+    /// `dir` or `end`. An `end` at the first place, and a `dir` without room, are wrong.
     fn dir_or_end(&mut self, first: bool, room: bool) -> Result<Start, FaultInText<'a>>
         ensures reads { ReadsAs is_dir (λ n. accept n (line_word first room)) self.old result self.new }
         ensures room { IfOk result (λ start. (is_dir start ≡ true → room ≡ true)) }
