@@ -10,11 +10,11 @@ use Rattle.format.proofs.OfTokens.{run_split, token_split}
 use Rattle.bracket.specs.declared.lexer.Lexer.{Lexer}
 use Rattle.bracket.specs.declared.lexer.Token.{Token}
 use Rattle.bracket.specs.declared.lexer.Token.TheVariants as tokens
-use Rattle.bracket.specs.Lexing.{left, place, mark_of, is_marked, token_len, IsToken}
+use Rattle.bracket.specs.Lexing.{left, place, mark_of, token_len, IsToken}
 
 -- The marks ----------------------------------------------------------------------------------------------------------
 
-is_mark : (b : ℕ) → is_marked b ≡ mark b
+is_mark : (b : ℕ) → is_some (mark_of b) ≡ mark b
 is_mark b = go (b == 40) (b == 41) (b == 32) (b == 10)
   where
     go :
@@ -31,9 +31,9 @@ no_mark b e = sym (is_mark b) ∙ ap is_some e
 
 -- The longest run -----------------------------------------------------------------------------------------------------
 
-pub run_is : (bs : List ℕ) → take_while (λ b. not (is_marked b)) bs ≡ run bs
+pub run_is : (bs : List ℕ) → take_while (λ b. not (mark b)) bs ≡ run bs
 run_is [] = refl
-run_is (b ∷ bs) = take_while-cons (λ b. not (is_marked b)) b bs ∙ ap (λ m. cond (not m) (b ∷ take_while (λ b. not (is_marked b)) bs) []) (is_mark b) ∙ go (mark b) (run_is bs)
+run_is (b ∷ bs) = take_while-cons (λ b. not (mark b)) b bs ∙ go (mark b) (run_is bs)
   where
     go : (m : Bool) {xs ys : List ℕ} → xs ≡ ys → cond (not m) (b ∷ xs) [] ≡ cond m [] (b ∷ ys)
     go true e = refl
@@ -56,7 +56,7 @@ pub record FirstWord (n : ℕ) (bs : List ℕ) : Type 0 where
   pub front : take n bs ≡ token bs
   pub word : IsWord (token bs)
 
-pub word_first : (bs : List ℕ) (n : ℕ) → 0 < length bs → mark_of (get_or bs 0 0) ≡ None → n ≡ length (take_while (λ b. not (is_marked b)) bs) → FirstWord n bs
+pub word_first : (bs : List ℕ) (n : ℕ) → 0 < length bs → mark_of (get_or bs 0 0) ≡ None → n ≡ length (take_while (λ b. not (mark b)) bs) → FirstWord n bs
 word_first [] n l m e = absurd (omega arith)
 word_first (b ∷ bs) n l none e =
     let m : mark b ≡ false = no_mark b none in

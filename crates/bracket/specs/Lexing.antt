@@ -1,6 +1,6 @@
 -- What the lexer gives, and how a call's result is compared with what a reader gives.
 use denote.Ref.{Bor}
-use Rattle.std.specs.Prelude.{◌≡◌, ℕ, ◌-◌, Bool, true, cond, is_some, ◌⊎◌, IfErr, List, [], ◌∷◌, length, drop, codes as text, Some, None, Ok, Err, Option, Result, ◌==◌}
+use Rattle.std.specs.Prelude.{◌≡◌, ℕ, ◌-◌, true, cond, ◌⊎◌, IfErr, List, [], ◌∷◌, length, drop, codes as text, Some, None, Ok, Err, Option, Result, ◌==◌}
 use Rattle.mojette.specs.declared.fault.Reason.{Reason}
 use Rattle.mojette.specs.declared.fault.Reason.TheVariants as reasons
 use Rattle.mojette.specs.declared.fault.TextFault.{TextFault}
@@ -28,9 +28,6 @@ mark_of b =
     (cond (b == 41) (Some tokens.Close)
     (cond (b == 32) (Some tokens.Space)
     (cond (b == 10) (Some tokens.Newline) None)))
-
-abbrev pub is_marked : ℕ → Bool
-is_marked b = is_some (mark_of b)
 
 -- t is the first token of bs, which begins at a byte: a word has it
 abbrev pub IsToken : ℕ → List ℕ → Token → Type 0

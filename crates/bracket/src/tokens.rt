@@ -1,11 +1,12 @@
 // Taking tokens off a text, each expected one or a fault.
 ghost use Rattle.std.specs.Prelude.{◌≡◌, ◌≤◌, [], ◌∷◌, length, not, take_while, codes as text};
 ghost use Rattle.std.specs.Fn.{FnOnceReturnsAt};
+ghost use Rattle.samples.specs.Names.{mark};
 ghost use Rattle.samples.specs.Reading.{read_code};
 ghost use Rattle.format.specs.Format.{code_word};
 ghost use Rattle.format.specs.Readers.{accept, expect};
 ghost use Rattle.format.specs.Tokens.{after};
-ghost use Rattle.bracket.specs.Lexing.{left, place, mark_of, is_marked, token_len, IsToken, Reads, Takes, TakesWord};
+ghost use Rattle.bracket.specs.Lexing.{left, place, mark_of, token_len, IsToken, Reads, Takes, TakesWord};
 
 use crate::fault_in_text::FaultInText;
 use crate::lexer::{Lexer, Token};
@@ -13,14 +14,19 @@ use mojette::{Reason, TextFault};
 use samples::Coded;
 use samples::codes::read_code;
 
+/// Whether a byte is a token by itself, so that no word goes on there.
+fn is_mark(b: u8) -> bool
+    ensures { result ≡ mark b }
+{
+    matches!(b, b'(' | b')' | b' ' | b'\n')
+}
+
 /// How many bytes the text has before the first mark.
 fn run_len(text: &[u8]) -> usize
     ensures within { result ≤ length text.now }
-    ensures value { result ≡ length (take_while (λ b. not (is_marked b)) text.now) }
+    ensures value { result ≡ length (take_while (λ b. not (mark b)) text.now) }
 {
-    text.iter()
-        .take_while(|b| Token::mark(**b).is_none())
-        .count()
+    text.iter().take_while(|b| !is_mark(**b)).count()
 }
 
 impl<'a> Token<'a> {
