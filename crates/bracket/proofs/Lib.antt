@@ -1,5 +1,4 @@
 pub mod OfLexer
-pub mod OfCodes
 pub mod OfNumerals
 pub mod OfDirections
 pub mod OfFound

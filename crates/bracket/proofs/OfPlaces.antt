@@ -5,19 +5,19 @@ use Rattle.std.proofs.lemmas.Bool.{lt-ltb, le-ltb, cases_lt}
 use Rattle.samples.specs.declared.coded.Coded.{Ghosts as Codes}
 use Rattle.samples.specs.declared.kind.Kind.{Ghosts as Operations}
 use Rattle.mojette.specs.declared.direction.Direction.{Direction}
-use Rattle.mojette.specs.declared.fault.TextFault.{TextFault}
 use Rattle.mojette.specs.declared.size.Size.{Size}
 use Rattle.mojette.specs.Bounds.{most_places}
 use Rattle.mojette.specs.Meaning.{Place}
 use Rattle.format.specs.Format.{line_word, is_first, dir_reader, end_reader, places_reader}
 use Rattle.format.specs.Readers.{Parsed, done, fault, Reader, then, accept, expect}
 use Rattle.format.proofs.Reading.{line_reader}
+use Rattle.bracket.specs.declared.fault_in_text.FaultInText.{FaultInText}
 use Rattle.bracket.specs.declared.lexer.Lexer.{Lexer}
 use Rattle.bracket.specs.declared.line.Line.{Line}
 use Rattle.bracket.specs.declared.line.Lines.{Lines}
 use Rattle.bracket.specs.declared.line.Start.{Start}
 use Rattle.bracket.specs.declared.line.Start.TheVariants.{Dir, End}
-use Rattle.bracket.specs.Lexing.{left, parsed_as, ReadsAs}
+use Rattle.bracket.specs.Lexing.{left, fault_of, parsed_as, ReadsAs}
 use Rattle.bracket.specs.Lines.{is_dir, start_reader, held_lines, place_from}
 
 pub not_dir : (s : Start) → (s ≡ Dir → ⊥) → is_dir s ≡ false
@@ -30,8 +30,8 @@ then_assoc (fault byte why) f g = refl
 
 -- what was read, in a text by its length
 reads_as_in :
-    {A B : Type 0} (value : A → B) (f : ℕ → Reader B) (l m : Lexer) (r : Result A TextFault) (t : List ℕ) → l.text.now ≡ t
-    → ReadsAs value f l r m → f (length t) (left l) ≡ parsed_as value r (left m)
+    {A B : Type 0} (value : A → B) (f : ℕ → Reader B) (l m : Lexer) (r : Result A FaultInText) (t : List ℕ) → l.text.now ≡ t
+    → ReadsAs value f l r m → f (length t) (left l) ≡ parsed_as value (fault_of r) (left m)
 reads_as_in value f l m r t e h = ap (λ u. f (length u) (left l)) (sym e) ∙ h.gives
 
 -- places that were read, before those that are still to be read
@@ -75,11 +75,11 @@ module _ {S : Type 0} (K : Operations S) (C : Codes S) (z : Size) where
     held lines = map (place_from K C t z) lines
 
     -- what the call that reads the end of the last line answers
-    abbrev pub EndRead : Lexer → Result (Unit {0}) TextFault → Lexer → Type 0
+    abbrev pub EndRead : Lexer → Result (Unit {0}) FaultInText → Lexer → Type 0
     EndRead k r m = ReadsAs (λ _. []) (λ n. end_reader {A = Place S} n) k r m
 
     -- what a call that reads the lines answers
-    abbrev pub LinesRead : (Lines → List (Place S)) → Result Lines TextFault → Lexer → Type 0
+    abbrev pub LinesRead : (Lines → List (Place S)) → Result Lines FaultInText → Lexer → Type 0
     LinesRead value r m = ReadsAs value (λ n. places_reader C n P Q None most_places) start r m
 
     -- l is what the lexer has become after so many places, and these are their lines
@@ -104,12 +104,13 @@ module _ {S : Type 0} (K : Operations S) (C : Codes S) (z : Size) where
       at_start = so_far.gives ∙ ap (before (held lines)) (started (length t) last (most_places - length lines) open' (left l) has_room)
 
       pub stops_at_start :
-          (value : Lines → List (Place S)) (m : Lexer) (e : TextFault) → ReadsAs is_dir (λ n. start_reader n last open') l (Err e) m
+          (value : Lines → List (Place S)) (m : Lexer) (e : FaultInText) → ReadsAs is_dir (λ n. start_reader n last open') l (Err e) m
           → LinesRead value (Err e) m
       stops_at_start value m e r = record {
         gives =
             at_start
             ∙ ap (λ x. before (held lines) (then x (line_rest (length t) last (most_places - length lines)))) (reads_as_in is_dir (λ n. start_reader n last open') l m (Err e) t so_far.same r);
+        in_text = r.in_text ∙ so_far.same;
         same = r.same ∙ so_far.same;
       }
 
@@ -130,10 +131,11 @@ module _ {S : Type 0} (K : Operations S) (C : Codes S) (z : Size) where
               ∙ ap (before (held lines)) (rest_end (length t) last (most_places - length lines) (left k))
 
           pub stops_at_end :
-              (value : Lines → List (Place S)) (m : Lexer) (e : TextFault) → EndRead k (Err e) m
+              (value : Lines → List (Place S)) (m : Lexer) (e : FaultInText) → EndRead k (Err e) m
               → LinesRead value (Err e) m
           stops_at_end value m e r = record {
             gives = at_end ∙ ap (before (held lines)) (reads_as_in _ (λ n. end_reader n) k m (Err e) t (begun.same ∙ so_far.same) r);
+            in_text = r.in_text ∙ begun.same ∙ so_far.same;
             same = r.same ∙ begun.same ∙ so_far.same;
           }
 
@@ -144,6 +146,7 @@ module _ {S : Type 0} (K : Operations S) (C : Codes S) (z : Size) where
                 at_end
                 ∙ ap (before (held lines)) (reads_as_in _ (λ n. end_reader n) k m (Ok tt) t (begun.same ∙ so_far.same) r)
                 ∙ ap (λ ys. done ys (left m)) (append-nil (held lines) ∙ ap held (sym e));
+            in_text = tt;
             same = r.same ∙ begun.same ∙ so_far.same;
           }
 
@@ -160,12 +163,13 @@ module _ {S : Type 0} (K : Operations S) (C : Codes S) (z : Size) where
               at_rest ∙ (λ i. before (held lines) (line_rest (length t) last (e i) (goes_on i) (left k)))
 
           -- what the call that reads a line answers
-          abbrev pub LineRead : Result Line TextFault → Lexer → Type 0
+          abbrev pub LineRead : Result Line FaultInText → Lexer → Type 0
           LineRead r m = ReadsAs (place_from K C k.text.now z) (λ n. dir_reader C n P Q last) k r m
 
-          pub stops_at_line : (value : Lines → List (Place S)) (m : Lexer) (e : TextFault) → LineRead (Err e) m → LinesRead value (Err e) m
+          pub stops_at_line : (value : Lines → List (Place S)) (m : Lexer) (e : FaultInText) → LineRead (Err e) m → LinesRead value (Err e) m
           stops_at_line value m e r = record {
             gives = at_line ∙ ap (λ x. before (held lines) (then x after_line)) (reads_as_in _ (λ n. dir_reader C n P Q last) k m (Err e) t (begun.same ∙ so_far.same) r);
+            in_text = r.in_text ∙ begun.same ∙ so_far.same;
             same = r.same ∙ begun.same ∙ so_far.same;
           }
 

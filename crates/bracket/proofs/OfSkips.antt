@@ -2,9 +2,9 @@
 use Rattle.std.proofs.Common.{◌≡◌, ℕ, suc, ◌+◌, ◌-◌, ◌<◌, ◌≤◌, List, ◌∷◌, length, Ok, Err, codes as text, Result, sym, refl, ap, ◌∙◌, arith}
 use Rattle.samples.specs.declared.coded.Coded.{Ghosts as Codes}
 use Rattle.samples.specs.declared.kind.Kind.{Ghosts as Operations}
-use Rattle.mojette.specs.declared.fault.TextFault.{TextFault}
 use Rattle.format.specs.Format.{code_word, codes_reader}
 use Rattle.format.specs.Readers.{Parsed, done, fault, then, Reader, expect, accept}
+use Rattle.bracket.specs.declared.fault_in_text.FaultInText.{FaultInText}
 use Rattle.bracket.specs.declared.lexer.Lexer.{Lexer}
 use Rattle.bracket.specs.Found.{found_from}
 use Rattle.bracket.specs.Lexing.{left, Reads, ReadsAs}
@@ -29,7 +29,7 @@ only_done (fault b w) r h = let z : ◌≡◌ {A = ℕ} 0 1 = cc in absurd (omeg
 
 module _ {S : Type 0} (K : Operations S) (C : Codes S) where
   -- what a call that passes codes answers
-  abbrev pub Skips : ℕ → Lexer → Result (Unit {0}) TextFault → Lexer → Type 0
+  abbrev pub Skips : ℕ → Lexer → Result (Unit {0}) FaultInText → Lexer → Type 0
   Skips count start r m =
       ReadsAs (λ _. found_from K C start.text.now start.at count) (λ n. codes_reader C n count) start r m
 
@@ -59,10 +59,11 @@ module _ {S : Type 0} (K : Operations S) (C : Codes S) where
         sym passed.gives ∙ ap (λ k. only (codes_reader C (length l.text.now) k (left l))) e
 
     pub stops_at_space :
-        (m : Lexer) (e : TextFault) → Reads (λ n. expect n (text " ")) l (Err e) m
+        (m : Lexer) (e : FaultInText) → Reads (λ n. expect n (text " ")) l (Err e) m
         → Skips count start (Err e) m
     stops_at_space m e r = record {
       gives = only_fault _ _ _ (opened ∙ ap (λ x. only (then x (after_space (length l.text.now) (count - (i + 1))))) r.gives);
+      in_text = r.in_text ∙ passed.same;
       same = r.same ∙ passed.same;
     }
 
@@ -75,10 +76,11 @@ module _ {S : Type 0} (K : Operations S) (C : Codes S) where
           ∙ ap (λ t. only (then (accept (length t) (code_word C) (left k)) (after_code (length t) (count - (i + 1))))) (sym spaced.same)
 
       pub stops_at_code :
-          (m : Lexer) (e : TextFault) → Reads (λ n. accept n (code_word C)) k (Err e) m
+          (m : Lexer) (e : FaultInText) → Reads (λ n. accept n (code_word C)) k (Err e) m
           → Skips count start (Err e) m
       stops_at_code m e r = record {
         gives = only_fault _ _ _ (at_code ∙ ap (λ x. only (then x (after_code (length k.text.now) (count - (i + 1))))) r.gives);
+        in_text = r.in_text ∙ spaced.same ∙ passed.same;
         same = r.same ∙ spaced.same ∙ passed.same;
       }
 
@@ -99,5 +101,6 @@ module _ {S : Type 0} (K : Operations S) (C : Codes S) where
       let d = only_done (codes_reader C (length start.text.now) count (left start)) (left l) (sym p.gives ∙ ap (λ k. only (codes_reader C (length l.text.now) k (left l))) e) in
       record {
         gives = d.1 ∙ ap (λ xs. done xs (left l)) (codes_found C K _ count start.at start.text.now d.0 (left l) d.1);
+        in_text = tt;
         same = p.same;
       }

@@ -3,6 +3,7 @@
 
 mod asking;
 pub mod bracket_file;
+mod fault_in_text;
 mod file;
 pub mod kind_name;
 mod lexer;

@@ -3,11 +3,12 @@ ghost use Rattle.std.specs.Prelude.{◌≡◌, None};
 ghost use Rattle.bracket.specs.Kinds.{kind_word, kind_reader, kind_named, Named, Unread};
 ghost use Rattle.bracket.specs.Lexing.{Reads, worth_of};
 
+use crate::fault_in_text::FaultInText;
 use crate::kind_name::KindName;
-use crate::lexer::{Lexer, Mark};
-use mojette::{Reason, TextFault};
+use crate::lexer::Lexer;
+use mojette::Reason;
 
-// The kind that has this name.
+/// The kind that has this name.
 fn kind_with(name: &[u8]) -> Result<KindName, Reason>
     ensures { worth_of result ≡ kind_word name.now }
 {
@@ -20,18 +21,18 @@ fn kind_with(name: &[u8]) -> Result<KindName, Reason>
 }
 
 impl<'a> Lexer<'a> {
-    // The start of the first line of a file, up to the kind's name.
-    fn kind(&mut self) -> Result<KindName, TextFault>
+    /// The start of the first line of a file, up to the kind's name.
+    fn kind(&mut self) -> Result<KindName, FaultInText<'a>>
         ensures { Reads kind_reader self.old result self.new }
     {
-        self.mark(Mark::Open)?;
+        self.open()?;
         self.word(b"tile")?;
-        self.mark(Mark::Space)?;
+        self.space()?;
         self.accept(kind_with)
     }
 }
 
-// Which kind a text names. A file of a kind names it, and where none is named the readers of all three give the same fault.
+/// Which kind a text names. A file of a kind names it, and where none is named the readers of all three give the same fault.
 pub fn kind_of(text: &[u8]) -> Option<KindName>
     ensures named { result ≡ kind_named text.now }
     ensures files { Named text.now result }

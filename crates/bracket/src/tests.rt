@@ -33,7 +33,7 @@ fn damaged(alloc: Global, at: usize, cut: usize, put: &str) -> Result<Vec<u8>, A
 }
 
 // A byte of the file, how many bytes are cut there, what is put in their place, and the fault; zeros for a file.
-const DAMAGES: [(usize, usize, &str, (usize, usize, usize)); 84] = [
+const DAMAGES: [(usize, usize, &str, (usize, usize, usize)); 87] = [
     // the first line
     (0, 105, "", (1, 0, 0)),
     (0, 0, " ", (1, 0, 0)),
@@ -87,6 +87,9 @@ const DAMAGES: [(usize, usize, &str, (usize, usize, usize)); 84] = [
     (30, 4, "00a2", (2, 30, 0)),
     (30, 4, "002", (2, 30, 0)),
     (30, 4, "00002", (2, 30, 0)),
+    (30, 4, "", (2, 30, 0)),
+    (30, 4, ")", (2, 30, 0)),
+    (30, 4, "000\t", (2, 30, 0)),
     (34, 1, "", (2, 30, 0)),
     (34, 1, "\n", (2, 34, 0)),
     (35, 4, "(", (2, 35, 0)),

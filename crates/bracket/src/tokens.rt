@@ -1,55 +1,73 @@
 // Taking tokens off a text, each expected one or a fault.
-ghost use Rattle.std.specs.Prelude.{◌≡◌, ◌≤◌, [], ◌∷◌, length, not, take_while};
+ghost use Rattle.std.specs.Prelude.{◌≡◌, ◌≤◌, [], ◌∷◌, length, not, take_while, codes as text};
 ghost use Rattle.std.specs.Fn.{FnOnceReturnsAt};
-ghost use Rattle.mojette.specs.declared.fault.Reason.TheVariants as reasons;
-ghost use Rattle.format.specs.Readers.{expect};
+ghost use Rattle.samples.specs.Names.{mark};
+ghost use Rattle.samples.specs.Reading.{read_code};
+ghost use Rattle.format.specs.Format.{code_word};
+ghost use Rattle.format.specs.Readers.{accept, expect};
 ghost use Rattle.format.specs.Tokens.{after};
-ghost use Rattle.bracket.specs.Lexing.{left, place, mark_byte, mark_of, is_marked, IsToken, Reads, Takes, TakesWord};
+ghost use Rattle.bracket.specs.Lexing.{left, place, mark_of, token_len, IsToken, Reads, Takes, TakesWord};
 
-use crate::lexer::{Lexer, Mark, Token};
+use crate::fault_in_text::FaultInText;
+use crate::lexer::{Lexer, Token};
 use mojette::{Reason, TextFault};
+use samples::Coded;
+use samples::codes::read_code;
 
-impl Mark {
-    // The mark that a byte is.
-    fn of(b: u8) -> Option<Mark>
+/// Whether a byte is a token by itself, so that no word goes on there.
+fn is_mark(b: u8) -> bool
+    ensures { result ≡ mark b }
+{
+    matches!(b, b'(' | b')' | b' ' | b'\n')
+}
+
+/// How many bytes the text has before the first mark.
+fn run_len(text: &[u8]) -> usize
+    ensures within { result ≤ length text.now }
+    ensures value { result ≡ length (take_while (λ b. not (mark b)) text.now) }
+{
+    text.iter().take_while(|b| !is_mark(**b)).count()
+}
+
+impl<'a> Token<'a> {
+    /// The token that a byte is by itself.
+    fn mark(b: u8) -> Option<Token<'a>>
         ensures { result ≡ mark_of b }
     {
         match b {
-            b'(' => Some(Mark::Open),
-            b')' => Some(Mark::Close),
-            b' ' => Some(Mark::Space),
-            b'\n' => Some(Mark::Newline),
+            b'(' => Some(Token::Open),
+            b')' => Some(Token::Close),
+            b' ' => Some(Token::Space),
+            b'\n' => Some(Token::Newline),
             _ => None,
         }
     }
 
-    fn byte(self) -> u8
-        ensures { result ≡ mark_byte self }
+    /// The first token of what is left of a text from a byte on.
+    fn first(rest: &'a [u8], byte: usize) -> Token<'a>
+        ensures { IsToken byte rest.now result }
     {
-        match self {
-            Mark::Open => b'(',
-            Mark::Close => b')',
-            Mark::Space => b' ',
-            Mark::Newline => b'\n',
+        let Some(first) = rest.first() else {
+            return Token::End;
+        };
+        if let Some(mark) = Token::mark(*first) {
+            return mark;
+        }
+        Token::Word {
+            text: &rest[..run_len(rest)],
+            byte,
         }
     }
-}
 
-// How many bytes the text has before the first mark.
-pub(crate) fn run_len(text: &[u8]) -> usize
-    ensures within { result ≤ length text.now }
-    ensures value { result ≡ length (take_while (λ b. not (is_marked b)) text.now) }
-{
-    text.iter().take_while(|b| Mark::of(**b).is_none()).count()
-}
-
-// The token at a byte is not the one that belongs there.
-pub(crate) fn wrong(byte: usize) -> TextFault
-    ensures { result ≡ record { byte = byte; reason = reasons.Token } }
-{
-    TextFault {
-        byte,
-        reason: Reason::Token,
+    /// How many bytes the token has.
+    fn len(&self) -> usize
+        ensures { result ≡ token_len self.now }
+    {
+        match self {
+            Token::End => 0,
+            Token::Open | Token::Close | Token::Space | Token::Newline => 1,
+            Token::Word { text, .. } => text.len(),
+        }
     }
 }
 
@@ -60,77 +78,128 @@ impl<'a> Lexer<'a> {
         Lexer { text, at: 0 }
     }
 
-    // The place of the next token.
-    pub(crate) fn byte(&self) -> usize
+    /// The place of the next token.
+    fn byte(&self) -> usize
         ensures { result ≡ place self.now }
     {
         self.at
     }
 
+    /// The fault of the token at a byte, which is wrong for this reason.
+    fn fault(&self, byte: usize, reason: Reason) -> FaultInText<'a>
+        ensures text { result.text.now ≡ self.now.text.now }
+        ensures fault { result.fault ≡ record { byte = byte; reason = reason } }
+    {
+        FaultInText {
+            text: self.text,
+            fault: TextFault { byte, reason },
+        }
+    }
+
+    /// The next token, which is passed.
     fn next(&mut self) -> Token<'a>
-        ensures is { IsToken (left self.old) result }
+        ensures is { IsToken (place self.old) (left self.old) result }
         ensures rest { left self.new ≡ after (left self.old) }
         ensures same { self.new.text.now ≡ self.old.text.now }
     {
         let text = self.text;
-        let rest = &text[self.at..];
-        let Some(first) = rest.first() else {
-            return Token::End;
-        };
-        if let Some(mark) = Mark::of(*first) {
-            self.at += 1;
-            return Token::Mark(mark);
-        }
-        let size = run_len(rest);
-        self.at += size;
-        Token::Word(&rest[..size])
+        let token = Token::first(&text[self.at..], self.byte());
+        self.at += token.len();
+        token
     }
 
-    // The mark `want`. A mark is one byte, and at any other byte another token stands.
-    pub(crate) fn mark(&mut self, want: Mark) -> Result<(), TextFault>
-        ensures { Reads (λ n. expect n (mark_byte want ∷ [])) self.old result self.new }
-    {
-        match self.text.get(self.at) {
-            Some(found) if *found == want.byte() => {
-                self.at += 1;
-                Ok(())
-            }
-            _ => Err(wrong(self.byte())),
-        }
-    }
+    // Below each token that a file may want is let through by a `let .. else` of its own. The else branch makes the
+    // fault of the token that stands there in its place.
 
-    // The end of the text. Here and in the next function another token is let through, each by a `let .. else` of its own, which is one of the forms
-    // that docs/DECISIONS.md names.
-    pub(crate) fn end(&mut self) -> Result<(), TextFault>
-        ensures { Reads (λ n. expect n ([])) self.old result self.new }
+    /// The bracket that opens a form.
+    pub(crate) fn open(&mut self) -> Result<(), FaultInText<'a>>
+        ensures { Reads (λ n. expect n (text "(")) self.old result self.new }
     {
         let byte = self.byte();
-        let Token::End = self.next() else {
-            return Err(wrong(byte));
+        let Token::Open = self.next() else {
+            return Err(self.fault(byte, Reason::Token));
         };
         Ok(())
     }
 
-    // The next word, with the place of its first byte.
-    pub(crate) fn take_word(&mut self) -> Result<(&'a [u8], usize), TextFault>
+    /// The bracket that closes a form.
+    pub(crate) fn close(&mut self) -> Result<(), FaultInText<'a>>
+        ensures { Reads (λ n. expect n (text ")")) self.old result self.new }
+    {
+        let byte = self.byte();
+        let Token::Close = self.next() else {
+            return Err(self.fault(byte, Reason::Token));
+        };
+        Ok(())
+    }
+
+    /// One space.
+    pub(crate) fn space(&mut self) -> Result<(), FaultInText<'a>>
+        ensures { Reads (λ n. expect n (text " ")) self.old result self.new }
+    {
+        let byte = self.byte();
+        let Token::Space = self.next() else {
+            return Err(self.fault(byte, Reason::Token));
+        };
+        Ok(())
+    }
+
+    /// The end of a line.
+    pub(crate) fn newline(&mut self) -> Result<(), FaultInText<'a>>
+        ensures { Reads (λ n. expect n (10 ∷ [])) self.old result self.new }
+    {
+        let byte = self.byte();
+        let Token::Newline = self.next() else {
+            return Err(self.fault(byte, Reason::Token));
+        };
+        Ok(())
+    }
+
+    /// The end of the text.
+    pub(crate) fn end(&mut self) -> Result<(), FaultInText<'a>>
+        ensures { Reads (λ n. expect n ([])) self.old result self.new }
+    {
+        let byte = self.byte();
+        let Token::End = self.next() else {
+            return Err(self.fault(byte, Reason::Token));
+        };
+        Ok(())
+    }
+
+    /// The next word, with the place of its first byte.
+    fn take_word(&mut self) -> Result<(&'a [u8], usize), FaultInText<'a>>
         ensures { TakesWord self.old result self.new }
     {
         let byte = self.byte();
-        let Token::Word(word) = self.next() else {
-            return Err(wrong(byte));
+        let Token::Word { text, byte } = self.next() else {
+            return Err(self.fault(byte, Reason::Token));
         };
-        Ok((word, byte))
+        Ok((text, byte))
     }
 
-    // A word as `read` reads it, which says why it is wrong.
+    /// The code of a sample: a word that is read as one.
+    pub(crate) fn code<K: Coded>(&mut self) -> Result<K, FaultInText<'a>>
+        ensures { Reads (λ n. accept n (code_word K.Coded.own)) self.old result self.new }
+    {
+        let (word, byte) = self.take_word()?;
+        let Some(sample) = read_code::<K>(word) else {
+            return Err(self.fault(byte, Reason::Token));
+        };
+        Ok(sample)
+    }
+
+    /// A word as `read` reads it, which says why it is wrong.
     pub(crate) fn accept<T, F: FnOnce(&[u8]) -> Result<T, Reason>>(
         &mut self,
         read: F,
-    ) -> Result<T, TextFault>
+    ) -> Result<T, FaultInText<'a>>
         requires { F.IsAlwaysCallable read }
         ensures { Takes (FnOnceReturnsAt F.FnOnce read) self.old result self.new }
     {
         let (word, byte) = self.take_word()?;
-        read(word).map_err(|reason| TextFault { byte, reason })
+        match read(word) {
+            Ok(value) => Ok(value),
+            Err(reason) => Err(self.fault(byte, reason)),
+        }
     }
 }

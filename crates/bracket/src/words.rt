@@ -1,19 +1,14 @@
 // What the words of a file are worth: a value, or the reason why one is wrong.
-ghost use Rattle.std.specs.Prelude.{◌≡◌, ◌≤◌, length, IfSome};
+ghost use Rattle.std.specs.Prelude.{◌≡◌};
 ghost use Rattle.std.specs.NonZero.{non_zero_u8_get};
 ghost use Rattle.format.specs.Format.{size_word, cause_word, p_word, q_word, bins_word, line_word};
 ghost use Rattle.format.specs.Readers.{exactly as exactly_one};
-ghost use Rattle.format.specs.Tokens.{token};
-ghost use Rattle.samples.specs.Reading.{read_code};
 ghost use Rattle.bracket.specs.Lexing.{worth_of, worth_as};
 ghost use Rattle.bracket.specs.Lines.{is_bins, is_dir};
 
 use crate::line::{Holding, Start};
 use crate::number::numeral;
-use crate::tokens::run_len;
 use mojette::{Direction, MOST_STEP, Reason, is_side};
-use samples::Coded;
-use samples::codes::read_code;
 use std::num::NonZeroU8;
 
 // The word `want`.
@@ -95,19 +90,5 @@ pub(crate) fn start_of(word: &[u8], first: bool, room: bool) -> Result<Start, Re
         b"end" if !first => Ok(Start::End),
         b"dir" | b"end" => Err(Reason::Count),
         _ => Err(Reason::Token),
-    }
-}
-
-// The sample whose code is the first token of a text: so many bytes, and no word goes on behind them.
-pub(crate) fn first_code<K: Coded>(text: &[u8]) -> Option<K>
-    ensures value { result ≡ read_code K.Coded.own (token text.now) }
-    ensures within { IfSome result (λ _. K.Coded.width ≤ length text.now) }
-{
-    let width = K::digits();
-    let sample = read_code::<K>(text.get(..width)?)?;
-    if run_len(&text[width..]) == 0 {
-        Some(sample)
-    } else {
-        None
     }
 }
