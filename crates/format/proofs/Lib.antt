@@ -6,6 +6,7 @@ pub mod OfWords
 pub mod OfPlaces
 pub mod Written
 pub mod Reading
+pub mod OfReasons
 pub mod Deciding
 pub mod LineEnds
 pub mod Wrong
