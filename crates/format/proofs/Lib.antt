@@ -8,5 +8,7 @@ pub mod Written
 pub mod Reading
 pub mod OfReasons
 pub mod Deciding
+pub mod Spots
+pub mod Refusing
 pub mod LineEnds
 pub mod Wrong

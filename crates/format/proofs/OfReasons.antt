@@ -19,10 +19,10 @@ abbrev pub nearest : List Direction → Option Direction
 nearest [] = None
 nearest (d ∷ ds) = Some d
 
-pub bad_same : {A : Type 0} (a b : ℕ) → ◌≡◌ {A = Worth A} (bad a) (bad b) → a ≡ b
+bad_same : {A : Type 0} (a b : ℕ) → ◌≡◌ {A = Worth A} (bad a) (bad b) → a ≡ b
 bad_same a b e = cc
 
-pub good_bad : {A : Type 0} (a : A) (why : ℕ) → good a ≡ bad why → ⊥
+good_bad : {A : Type 0} (a : A) (why : ℕ) → good a ≡ bad why → ⊥
 good_bad a why e = let z : ◌≡◌ {A = ℕ} 0 1 = cc in omega arith
 
 -- what a test lets pass is not wrong
@@ -30,8 +30,15 @@ failed : {A : Type 0} (b : Bool) (x : A) (r why : ℕ) → cond b (good x) (bad 
 failed true x r why h = absurd (good_bad x why h)
 failed false x r why h = (refl, bad_same r why h)
 
+differ : false ≡ true → ⊥
+differ e = let z : ◌≡◌ {A = ℕ} 0 1 = cc in omega arith
+
 never : {A B : Type 0} → (A → ⊥) → (B → ⊥) → A ↔ B
 never a b = (λ x. absurd (a x), λ y. absurd (b y))
+
+-- Each token that is wrong behind the tokens ws, by what tokens are worth there, has the reason that is told.
+abbrev pub Reasoned : {A : Type 0} → (List ℕ → Worth A) → List (List ℕ) → Type 0
+Reasoned worth ws = (w : List ℕ) (why : ℕ) → worth w ≡ bad why → TellsReason ws w why
 
 module _ (ws : List (List ℕ)) (w : List ℕ) where
   -- No fact of a reason holds at another spot.
@@ -56,13 +63,12 @@ module _ (ws : List (List ℕ)) (w : List ℕ) where
       let i = x.is in
       let a : p ≡ x.p = cc in
       let b : q ≡ x.q = cc in
-      let c : false ≡ true = sym l ∙ (λ j. lawful (direction_of (a j) (b j))) ∙ x.law in
-      let z : ◌≡◌ {A = ℕ} 0 1 = cc in omega arith
+      differ (sym l ∙ (λ j. lawful (direction_of (a j) (b j))) ∙ x.law)
 
   tells_0 :
       (SizeOutside ws w → ⊥) → (CountOutside ws w → ⊥) → (Unlawful ws w → ⊥) → (Disordered ws w → ⊥) → TellsReason ws w 0
   tells_0 a b c d = record {
-    few = omega arith;
+    at_most = omega arith;
     size = never (λ z. omega arith) a;
     count = never (λ z. omega arith) b;
     direction = never (λ z. omega arith) c;
@@ -71,7 +77,7 @@ module _ (ws : List (List ℕ)) (w : List ℕ) where
 
   tells_1 : SizeOutside ws w → TellsReason ws w 1
   tells_1 x = record {
-    few = omega arith;
+    at_most = omega arith;
     size = (λ z. x, λ y. refl);
     count = never (λ z. omega arith) (no_count at_size x.here (λ z. cc));
     direction = never (λ z. omega arith) (no_unlawful at_size x.here (λ z. cc) (λ p z. cc));
@@ -80,7 +86,7 @@ module _ (ws : List (List ℕ)) (w : List ℕ) where
 
   tells_2 : CountOutside ws w → TellsReason ws w 2
   tells_2 x = record {
-    few = omega arith;
+    at_most = omega arith;
     size = never (λ z. omega arith) (no_size at_word x.here (λ z. cc));
     count = (λ z. x, λ y. refl);
     direction = never (λ z. omega arith) (no_unlawful at_word x.here (λ z. cc) (λ p z. cc));
@@ -89,7 +95,7 @@ module _ (ws : List (List ℕ)) (w : List ℕ) where
 
   tells_3 : Unlawful ws w → TellsReason ws w 3
   tells_3 x = record {
-    few = omega arith;
+    at_most = omega arith;
     size = never (λ z. omega arith) (λ y. no_unlawful at_size y.here (λ z. cc) (λ p z. cc) x);
     count = never (λ z. omega arith) (λ y. no_unlawful at_word y.here (λ z. cc) (λ p z. cc) x);
     direction = (λ z. x, λ y. refl);
@@ -98,25 +104,26 @@ module _ (ws : List (List ℕ)) (w : List ℕ) where
 
   tells_4 : Disordered ws w → TellsReason ws w 4
   tells_4 x = record {
-    few = omega arith;
+    at_most = omega arith;
     size = never (λ z. omega arith) (no_size (at_q x.p) x.here (λ z. cc));
     count = never (λ z. omega arith) (no_count (at_q x.p) x.here (λ z. cc));
     direction = never (λ z. omega arith) (λ y. unlawful_ordered y x);
     order = (λ z. x, λ y. refl);
   }
 
-  -- any token that is wrong elsewhere
-  pub tells_elsewhere : spot ws ≡ elsewhere → TellsReason ws w 0
+  tells_elsewhere : spot ws ≡ elsewhere → TellsReason ws w 0
   tells_elsewhere e =
-      tells_0 (no_size elsewhere e (λ z. cc)) (no_count elsewhere e (λ z. cc)) (no_unlawful elsewhere e (λ z. cc) (λ p z. cc)) (no_disorder elsewhere e (λ p z. cc))
+      tells_0 (no_size elsewhere e (λ z. cc)) (no_count elsewhere e (λ z. cc))
+      (no_unlawful elsewhere e (λ z. cc) (λ p z. cc)) (no_disorder elsewhere e (λ p z. cc))
 
-  pub tells_size : (why : ℕ) → spot ws ≡ at_size → size_word w ≡ bad why → TellsReason ws w why
+  tells_size : (why : ℕ) → spot ws ≡ at_size → size_word w ≡ bad why → TellsReason ws w why
   tells_size why e h = go (numeral w) refl h
     where
       go : (o : Option ℤ) → numeral w ≡ o → within 1 most_side 1 o ≡ bad why → TellsReason ws w why
       go None n k =
           subst (TellsReason ws w) (bad_same 0 why k)
-          (tells_0 (λ x. let i = x.is in let z : ◌≡◌ {A = ℕ} 0 1 = cc in omega arith) (no_count at_size e (λ z. cc)) (no_unlawful at_size e (λ z. cc) (λ p z. cc)) (no_disorder at_size e (λ p z. cc)))
+          (tells_0 (λ x. let i = x.is in let z : ◌≡◌ {A = ℕ} 0 1 = cc in omega arith) (no_count at_size e (λ z. cc))
+          (no_unlawful at_size e (λ z. cc) (λ p z. cc)) (no_disorder at_size e (λ p z. cc)))
       go (Some (pos v)) n k =
           let t = failed (leb 1 v && leb v most_side) v 1 why k in
           subst (TellsReason ws w) t.1 (tells_1 (record {
@@ -133,9 +140,9 @@ module _ (ws : List (List ℕ)) (w : List ℕ) where
             outside = λ i same. let z : ◌≡◌ {A = ℕ} 0 1 = cc in absurd (omega arith);
           }))
 
-  pub tells_word :
-      (why : ℕ) (ds : List Direction) (room : Bool) → spot ws ≡ at_word → directions ws ≡ ds → (room ≡ false → length ds ≡ most_places)
-      → line_word (is_first (nearest ds)) room w ≡ bad why → TellsReason ws w why
+  tells_word :
+      (why : ℕ) (ds : List Direction) (room : Bool) → spot ws ≡ at_word → directions ws ≡ ds
+      → (room ≡ false → length ds ≡ most_places) → line_word (is_first (nearest ds)) room w ≡ bad why → TellsReason ws w why
   tells_word why ds room e told full h = go ds room (bytes_eq w (text "dir")) (bytes_eq w (text "end")) refl refl told full h
     where
       two : CountOutside ws w → ◌≡◌ {A = Worth Bool} (bad 2) (bad why) → TellsReason ws w why
@@ -152,16 +159,17 @@ module _ (ws : List (List ℕ)) (w : List ℕ) where
       go [] room false true x y t f k = two (record { here = e; outside = inl ((bytes_eq-Decides w (text "end")).0 y, t) }) k
       go (d ∷ ds) room false true x y t f k = absurd (good_bad false why k)
       go ds room false false x y t f k =
-          subst (TellsReason ws w) (bad_same 0 why k) (tells_0 (no_size at_word e (λ z. cc)) none (no_unlawful at_word e (λ z. cc) (λ p z. cc)) (no_disorder at_word e (λ p z. cc)))
+          subst (TellsReason ws w) (bad_same 0 why k)
+          (tells_0 (no_size at_word e (λ z. cc)) none (no_unlawful at_word e (λ z. cc) (λ p z. cc)) (no_disorder at_word e (λ p z. cc)))
         where
           none : CountOutside ws w → ⊥
           none c =
               elim c.outside [
-                | inl p ↦ let q : false ≡ true = sym y ∙ (bytes_eq-Decides w (text "end")).1 p.0 in let z : ◌≡◌ {A = ℕ} 0 1 = cc in omega arith
-                | inr p ↦ let q : false ≡ true = sym x ∙ (bytes_eq-Decides w (text "dir")).1 p.0 in let z : ◌≡◌ {A = ℕ} 0 1 = cc in omega arith
+                | inl p ↦ differ (sym y ∙ (bytes_eq-Decides w (text "end")).1 p.0)
+                | inr p ↦ differ (sym x ∙ (bytes_eq-Decides w (text "dir")).1 p.0)
               ]
 
-  pub tells_p : (why : ℕ) → spot ws ≡ at_p → p_word w ≡ bad why → TellsReason ws w why
+  tells_p : (why : ℕ) → spot ws ≡ at_p → p_word w ≡ bad why → TellsReason ws w why
   tells_p why e h = go (numeral w) refl h
     where
       no_far : numeral w ≡ None → Unlawful ws w → ⊥
@@ -170,13 +178,15 @@ module _ (ws : List (List ℕ)) (w : List ℕ) where
 
       go : (o : Option ℤ) → numeral w ≡ o → near o ≡ bad why → TellsReason ws w why
       go None n k =
-          subst (TellsReason ws w) (bad_same 0 why k) (tells_0 (no_size at_p e (λ z. cc)) (no_count at_p e (λ z. cc)) (no_far n) (no_disorder at_p e (λ p z. cc)))
+          subst (TellsReason ws w) (bad_same 0 why k)
+          (tells_0 (no_size at_p e (λ z. cc)) (no_count at_p e (λ z. cc)) (no_far n) (no_disorder at_p e (λ p z. cc)))
       go (Some z) n k =
           let t = failed (leb (nat_abs z) most_step) z 3 why k in
           subst (TellsReason ws w) t.1 (tells_3 (far e z n (leb-false (nat_abs z) most_step t.0)))
 
-  pub tells_q :
-      (why : ℕ) (ds : List Direction) (p : ℤ) → spot ws ≡ at_q p → directions ws ≡ ds → q_word (nearest ds) p w ≡ bad why → TellsReason ws w why
+  tells_q :
+      (why : ℕ) (ds : List Direction) (p : ℤ) → spot ws ≡ at_q p → directions ws ≡ ds → q_word (nearest ds) p w ≡ bad why
+      → TellsReason ws w why
   tells_q why ds p e told h = go (numeral w) refl h
     where
       none : numeral w ≡ None → Unlawful ws w → ⊥
@@ -197,33 +207,55 @@ module _ (ws : List (List ℕ)) (w : List ℕ) where
       go : (o : Option ℤ) → numeral w ≡ o → after_last (nearest ds) p o ≡ bad why → TellsReason ws w why
       go None n k =
           subst (TellsReason ws w) (bad_same 0 why k)
-          (tells_0 (no_size (at_q p) e (λ z. cc)) (no_count (at_q p) e (λ z. cc)) (none n) (λ x. let i = x.is in let z : ◌≡◌ {A = ℕ} 0 1 = cc in omega arith))
+          (tells_0 (no_size (at_q p) e (λ z. cc)) (no_count (at_q p) e (λ z. cc)) (none n)
+          (λ x. let i = x.is in let z : ◌≡◌ {A = ℕ} 0 1 = cc in omega arith))
       go (Some q) n k =
           after q ds (lawful (direction_of p q)) (follows (nearest ds) (direction_of p q)) n told refl refl k
 
--- a token that is another than the one that belongs there
-pub exactly_bad : (t w : List ℕ) (why : ℕ) → exactly t w ≡ bad why → 0 ≡ why
-exactly_bad t w why h = (failed (bytes_eq w t) tt 0 why h).1
+-- Each word by where it stands ------------------------------------------------------------------------------------
 
--- what is wrong for reason 0 alone
-pub cause_bad : (w : List ℕ) (why : ℕ) → cause_word w ≡ bad why → 0 ≡ why
-cause_bad w why h = go (numeral w) h
-  where
-    go : (o : Option ℤ) → within 1 most_cause 0 o ≡ bad why → 0 ≡ why
-    go None k = bad_same 0 why k
-    go (Some (pos v)) k = (failed (leb 1 v && leb v most_cause) v 0 why k).1
-    go (Some (negsuc v)) k = bad_same 0 why k
+module _ (ws : List (List ℕ)) where
+  pub size_reasoned : spot ws ≡ at_size → Reasoned size_word ws
+  size_reasoned e w why h = tells_size ws w why e h
 
-pub bins_bad : (w : List ℕ) (why : ℕ) → bins_word w ≡ bad why → 0 ≡ why
-bins_bad w why h = go (bytes_eq w (text "bins")) (bytes_eq w (text "lost")) h
-  where
-    go : (a b : Bool) → cond a (good true) (cond b (good false) (bad 0)) ≡ bad why → 0 ≡ why
-    go true b k = absurd (good_bad true why k)
-    go false b k = (failed b false 0 why k).1
+  pub word_reasoned :
+      (ds : List Direction) (room : Bool) → spot ws ≡ at_word → directions ws ≡ ds → (room ≡ false → length ds ≡ most_places)
+      → Reasoned (line_word (is_first (nearest ds)) room) ws
+  word_reasoned ds room e told full w why h = tells_word ws w why ds room e told full h
 
-pub code_bad : {S : Type 0} (C : Codes S) (w : List ℕ) (why : ℕ) → code_word C w ≡ bad why → 0 ≡ why
-code_bad {S} C w why h = go (read_code C w) h
-  where
-    go : (o : Option S) → there o ≡ bad why → 0 ≡ why
-    go None k = bad_same 0 why k
-    go (Some x) k = absurd (good_bad x why k)
+  pub p_reasoned : spot ws ≡ at_p → Reasoned p_word ws
+  p_reasoned e w why h = tells_p ws w why e h
+
+  pub q_reasoned : (ds : List Direction) (p : ℤ) → spot ws ≡ at_q p → directions ws ≡ ds → Reasoned (q_word (nearest ds) p) ws
+  q_reasoned ds p e told w why h = tells_q ws w why ds p e told h
+
+  -- what is wrong for reason 0 alone
+  zero_reasoned :
+      {A : Type 0} (worth : List ℕ → Worth A) → ((w : List ℕ) (why : ℕ) → worth w ≡ bad why → 0 ≡ why) → spot ws ≡ elsewhere
+      → Reasoned worth ws
+  zero_reasoned worth none e w why h = subst (TellsReason ws w) (none w why h) (tells_elsewhere ws w e)
+
+  pub token_reasoned : (t : List ℕ) → spot ws ≡ elsewhere → Reasoned (exactly t) ws
+  token_reasoned t = zero_reasoned (exactly t) (λ w why h. (failed (bytes_eq w t) tt 0 why h).1)
+
+  pub cause_reasoned : spot ws ≡ elsewhere → Reasoned cause_word ws
+  cause_reasoned = zero_reasoned cause_word (λ w why h. go (numeral w) why h)
+    where
+      go : (o : Option ℤ) (why : ℕ) → within 1 most_cause 0 o ≡ bad why → 0 ≡ why
+      go None why k = bad_same 0 why k
+      go (Some (pos v)) why k = (failed (leb 1 v && leb v most_cause) v 0 why k).1
+      go (Some (negsuc v)) why k = bad_same 0 why k
+
+  pub bins_reasoned : spot ws ≡ elsewhere → Reasoned bins_word ws
+  bins_reasoned = zero_reasoned bins_word (λ w why h. go (bytes_eq w (text "bins")) (bytes_eq w (text "lost")) why h)
+    where
+      go : (a b : Bool) (why : ℕ) → cond a (good true) (cond b (good false) (bad 0)) ≡ bad why → 0 ≡ why
+      go true b why k = absurd (good_bad true why k)
+      go false b why k = (failed b false 0 why k).1
+
+  pub code_reasoned : {S : Type 0} (C : Codes S) → spot ws ≡ elsewhere → Reasoned (code_word C) ws
+  code_reasoned {S} C = zero_reasoned (code_word C) (λ w why h. go (read_code C w) why h)
+    where
+      go : (o : Option S) (why : ℕ) → there o ≡ bad why → 0 ≡ why
+      go None why k = bad_same 0 why k
+      go (Some x) why k = absurd (good_bad x why k)

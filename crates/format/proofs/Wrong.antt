@@ -10,7 +10,8 @@ use Rattle.format.specs.Reasons.{TellsReason}
 use Rattle.format.specs.Tokens.{token, after}
 use Rattle.format.specs.Wrong.{first_tokens, skip, bytes_of, WrongToken, TellsWrong}
 use Rattle.format.proofs.OfTokens.{token_split}
-use Rattle.format.proofs.Deciding.{behind, head_same, tail_same, Decided, reads, stops, file_decides}
+use Rattle.format.proofs.Deciding.{behind, head_same, tail_same, Decided, reads, stops}
+use Rattle.format.proofs.Refusing.{file_decides}
 use Rattle.format.proofs.LineEnds.{lines_counted}
 
 -- the bytes of the first n tokens

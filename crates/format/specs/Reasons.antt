@@ -1,4 +1,5 @@
--- The reason that a refusal of a text tells, by the wrong token and the tokens before it alone. In a list of tokens the nearest to it comes first.
+-- The reason that a refusal of a text tells, by the wrong token and the tokens before it alone.
+-- In each list of tokens the nearest to the wrong one comes first.
 use Rattle.std.specs.Prelude.{◌≡◌, ℕ, ◌<◌, ◌≤◌, Bool, true, false, cond, ◌||◌, ◌⊎◌, List, [], ◌∷◌, length, ℤ, pos, Some, None, codes as text, Option, ◌==◌, ◌↔◌, unsigned_abs}
 use Rattle.std.specs.List.{starts_with}
 use Rattle.std.specs.Str.{bytes_eq}
@@ -79,7 +80,9 @@ module _ (ws : List (List ℕ)) (w : List ℕ) where
   -- Reason 2: `end` before any place, or `dir` after 16 places.
   pub record CountOutside : Type 0 where
     pub here : spot ws ≡ at_word
-    pub outside : ((w ≡ text "end") × (directions ws ≡ [])) ⊎ ((w ≡ text "dir") × (length (directions ws) ≡ most_places))
+    pub outside :
+        ((w ≡ text "end") × (directions ws ≡ []))
+        ⊎ ((w ≡ text "dir") × (length (directions ws) ≡ most_places))
 
   -- Reason 3: p is a numeral out of -7 to 7, or q one that makes no lawful direction with its p.
   pub data Unlawful : Type 0 where
@@ -100,7 +103,7 @@ module _ (ws : List (List ℕ)) (w : List ℕ) where
 
   -- The reason of the wrong token w behind the tokens ws: 1 to 4 just where its own fact holds, and 0 at any other.
   pub record TellsReason (why : ℕ) : Type 0 where
-    pub few : why ≤ 4
+    pub at_most : why ≤ 4
     pub size : (why ≡ 1) ↔ SizeOutside
     pub count : (why ≡ 2) ↔ CountOutside
     pub direction : (why ≡ 3) ↔ Unlawful

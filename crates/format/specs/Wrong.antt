@@ -20,8 +20,8 @@ abbrev pub bytes_of : List (List ℕ) → List ℕ
 bytes_of [] = []
 bytes_of (w ∷ ws) = w ++ bytes_of ws
 
--- The text t is refused at its first wrong token, which stands behind so many others: byte is where it begins, line its line. The reason goes by
--- that token and those before it.
+-- The text t is refused at its first wrong token, which stands behind so many others: byte is where it begins, line its line.
+-- The reason goes by that token and those before it, the nearest first.
 -- What comes later counts for nothing: every text with these tokens is refused so, and none is a file.
 pub record WrongToken {S : Type 0} (C : Codes S) (t : List ℕ) (line byte why : ℕ) : Type 0 where
   pub others : ℕ
