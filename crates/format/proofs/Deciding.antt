@@ -53,8 +53,9 @@ behind_plus (suc m) n ws bs = behind_plus m n (token bs ∷ ws) (after bs)
 abbrev pub Fact : Type 0 → Type 1
 Fact A = A → List (List ℕ) → Type 0
 
--- A reader of a text of any length n gives a value after so many tokens of bs, and of whatever has the same; or it stops behind so many
--- tokens, by the next. Where bs stands behind the tokens ws, Next holds of what was read, and the reason is that of the token where it stops.
+-- A reader of a text of any length n gives a value after so many tokens of bs, and of whatever has the same; or it stops behind so
+-- many tokens, by the next. Where bs stands behind the tokens ws, Next holds of what was read, and the reason told is that of the
+-- token where it stops.
 pub data Decided {A : Type 0} (f : ℕ → Reader A) (Next : Fact A) (ws : List (List ℕ)) (bs : List ℕ) : Type 0 where
   reads :
       (a : A) (m : ℕ) → Next a (behind m ws bs)

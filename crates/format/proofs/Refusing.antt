@@ -17,8 +17,9 @@ use Rattle.format.proofs.Spots.{and_false, cond_same, joined_none, Long, spot_be
 
 -- the token t behind P and Q, then the rest
 later_then :
-    {B : Type 0} {g : ℕ → Reader B} {Next : Fact B} {bs : List ℕ} (t : List ℕ) (ws : List (List ℕ)) → Long ws → line_spot ws ≡ elsewhere
-    → ((r : List ℕ) → Decided g Next (t ∷ ws) r) → Decided (λ n s. then (expect n t s) (λ _. g n)) Next ws bs
+    {B : Type 0} {g : ℕ → Reader B} {Next : Fact B} {bs : List ℕ} (t : List ℕ) (ws : List (List ℕ)) → Long ws
+    → line_spot ws ≡ elsewhere → ((r : List ℕ) → Decided g Next (t ∷ ws) r)
+    → Decided (λ n s. then (expect n t s) (λ _. g n)) Next ws bs
 later_then t ws l e next = expect_then t ws (spot_behind ws elsewhere l e) next
 
 head_decides : (name bs : List ℕ) → Decided (λ n. head_reader name n) (λ v ws. Ended [] ws) [] bs
@@ -162,7 +163,8 @@ module _ {S : Type 0} (C : Codes S) where
   places_decide P Q ds (suc room) ws bs e c =
       expect_then (text "(") ws (at_line ds ws e) λ r1.
       let first = is_first (nearest ds) in
-      let rec = λ (d : Direction) (vs : List (List ℕ)) (r : List ℕ) (k : Ended (d ∷ ds) vs). places_decide P Q (d ∷ ds) room vs r k (omega arith) in
+      let rec = λ (d : Direction) (vs : List (List ℕ)) (r : List ℕ) (k : Ended (d ∷ ds) vs).
+      places_decide P Q (d ∷ ds) room vs r k (omega arith) in
       accept_then (line_word first true) _ (word_reasoned _ ds true (word_next ds ws e) e.told no_room) λ more w r2 g.
       line_decides P Q ds room ws e rec first more w r2 (line_back first true w more g)
     where
