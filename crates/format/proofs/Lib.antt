@@ -7,6 +7,7 @@ pub mod OfPlaces
 pub mod Written
 pub mod Reading
 pub mod OfReasons
+pub mod Following
 pub mod Deciding
 pub mod Spots
 pub mod Refusing

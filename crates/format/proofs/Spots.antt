@@ -1,10 +1,11 @@
 -- Where the tokens of a file stand, and the directions that they tell.
-use Rattle.std.proofs.Common.{◌≡◌, ℕ, ◌≤◌, Bool, true, false, cond, ◌&&◌, List, [], ◌∷◌, length, ℤ, None, Some, codes as text, Option, refl, ap, ◌∙◌, arith}
+use Rattle.std.proofs.Common.{◌≡◌, ℕ, ◌<◌, ◌≤◌, Bool, true, false, cond, ◌&&◌, List, [], ◌∷◌, length, ℤ, None, Some, codes as text, Option, refl, ap, ◌∙◌, arith}
 use Rattle.std.specs.Str.{bytes_eq}
 use Rattle.std.proofs.lemmas.Bool.{cond-false}
 use Rattle.std.proofs.lemmas.Bool.Decides.{nat_tests}
 use Rattle.mojette.specs.declared.direction.Direction.{Direction}
 use Rattle.format.specs.Numbers.{numeral}
+use Rattle.format.proofs.Following.{solid, solid_more}
 use Rattle.format.specs.Reasons.{size_belongs, p_belongs, p_of_q, Spot, at_size, at_word, at_p, elsewhere, spot_of_q, line_spot, spot, joined, directions}
 
 pub and_false : (b : Bool) → (b && false) ≡ false
@@ -43,6 +44,7 @@ pub record Free (ds : List Direction) (ws : List (List ℕ)) : Type 0 where
   pub here : line_spot ws ≡ elsewhere
   pub no_p : p_belongs (text " " ∷ ws) ≡ false
   pub no_q : p_of_q (text " " ∷ ws) ≡ None
+  pub all_solid : solid ws ≡ true
   pub told : directions ws ≡ ds
 
 -- Tokens of a file with a line end last. They tell the directions ds.
@@ -50,16 +52,18 @@ pub record Ended (ds : List Direction) (ws : List (List ℕ)) : Type 0 where
   pub others : List (List ℕ)
   pub is : ws ≡ (10 ∷ []) ∷ others
   pub long : Long ws
+  pub all_solid : solid ws ≡ true
   pub told : directions ws ≡ ds
 
 pub free_word :
-    (ds : List Direction) (w : List ℕ) (ws : List (List ℕ)) → Long ws → p_belongs (text " " ∷ ws) ≡ false
-    → directions (w ∷ (text " " ∷ ws)) ≡ ds → Free ds (w ∷ (text " " ∷ ws))
-free_word ds w ws l p t = record {
+    (ds : List Direction) (w : List ℕ) (ws : List (List ℕ)) → Long ws → p_belongs (text " " ∷ ws) ≡ false → 0 < length w
+    → solid ws ≡ true → directions (w ∷ (text " " ∷ ws)) ≡ ds → Free ds (w ∷ (text " " ∷ ws))
+free_word ds w ws l p some h t = record {
   long = omega arith;
   here = behind_word w ws;
   no_p = no_p_behind w ws;
   no_q = cond-false (p_belongs (text " " ∷ ws)) (numeral w) None p;
+  all_solid = solid_more w (text " " ∷ ws) some h;
   told = t;
 }
 
