@@ -34,7 +34,7 @@ abbrev pub p_of_q : List (List ℕ) → Option ℤ
 p_of_q [] = None
 p_of_q (w ∷ ws) = cond (bytes_eq w (text " ")) (p_nearest ws) None
 
--- P or Q, the word of a line, p, q with the p before it, or any other token
+-- the places of P and Q, of the word of a line, of p, of q behind some p, and of any other token
 pub data Spot : Type 0 where
   at_size : Spot
   at_word : Spot
@@ -46,17 +46,17 @@ abbrev pub spot_of_q : Option ℤ → Spot
 spot_of_q None = elsewhere
 spot_of_q (Some p) = at_q p
 
--- the spot of a token that is none of a size
+-- where the token behind ws stands, if it is not P or Q
 abbrev pub line_spot : List (List ℕ) → Spot
 line_spot ws = cond (word_belongs ws) at_word (cond (p_belongs ws) at_p (spot_of_q (p_of_q ws)))
 
--- where the token behind ws stands
+-- where the token behind ws stands: each q is told with its p
 abbrev pub spot : List (List ℕ) → Spot
 spot ws = cond (size_belongs ws) at_size (line_spot ws)
 
 -- The directions before it ------------------------------------------------------------------------------------------
 
--- a q and its p make a direction, before which others stand
+-- the direction of a q and its p, where there are both, and then those before it
 abbrev pub joined : Option ℤ → Option ℤ → List Direction → List Direction
 joined None p ds = ds
 joined (Some q) None ds = ds
