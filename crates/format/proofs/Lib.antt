@@ -6,6 +6,10 @@ pub mod OfWords
 pub mod OfPlaces
 pub mod Written
 pub mod Reading
+pub mod OfReasons
+pub mod Following
 pub mod Deciding
+pub mod Spots
+pub mod Refusing
 pub mod LineEnds
 pub mod Wrong

@@ -55,7 +55,7 @@ last_back n worth bs b r h k =
     accept_back n worth done bs b r (then_same (accept n worth bs) ∙ h) λ a w s e g m.
     let same = done_same a b s r m in k w (e ∙ ap (λ l. w ++ l) same.1) (g ∙ ap good same.0)
 
-exactly_back : (t w : List ℕ) (u : Unit {0}) → exactly t w ≡ good u → w ≡ t
+pub exactly_back : (t w : List ℕ) (u : Unit {0}) → exactly t w ≡ good u → w ≡ t
 exactly_back t w u h = (bytes_eq-Decides w t).0 (go (bytes_eq w t) h)
   where
     go : (m : Bool) → cond m (good tt) (bad 0) ≡ good u → m ≡ true

@@ -44,7 +44,7 @@ number_back low high why v w e s =
 pub p_there : (z : ℤ) → nat_abs z ≤ most_step → p_word (signed_decimal z) ≡ good z
 p_there z h = ap near (numeral_signed z (omega arith)) ∙ cond-true (leb (nat_abs z) most_step) _ _ (le-leb (nat_abs z) most_step h)
 
-near_back : (z : ℤ) (o : Option ℤ) → near o ≡ good z → (o ≡ Some z) × (nat_abs z ≤ most_step)
+pub near_back : (z : ℤ) (o : Option ℤ) → near o ≡ good z → (o ≡ Some z) × (nat_abs z ≤ most_step)
 near_back z None h = let e : ◌≡◌ {A = ℕ} 0 1 = cc in absurd (omega arith)
 near_back z (Some y) h =
     let t = passed (leb (nat_abs y) most_step) y 3 z h in
@@ -74,7 +74,7 @@ pub record GoodQ (last : Option Direction) (p : ℤ) (w : List ℕ) (d : Directi
   pub law : lawful d ≡ true
   pub order : follows last d ≡ true
 
-after_back :
+pub after_back :
     (last : Option Direction) (p : ℤ) (o : Option ℤ) (d : Direction) → after_last last p o ≡ good d
     → (o ≡ Some d.q) × (p ≡ d.p) × (lawful d ≡ true) × (follows last d ≡ true)
 after_back last p None d h = let e : ◌≡◌ {A = ℕ} 0 1 = cc in absurd (omega arith)

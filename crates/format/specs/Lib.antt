@@ -3,6 +3,7 @@ pub mod Numbers
 pub mod Readers
 pub mod Texts
 pub mod Format
+pub mod Reasons
 pub mod Wrong
 pub mod Laws
 pub mod Listing

@@ -6,3 +6,4 @@ pub mod OfRows
 pub mod OfTile
 pub mod OfPlaces
 pub mod OfFiles
+pub mod OfReading

@@ -1,16 +1,19 @@
 -- A plan and the source that it is of, and the text of its file.
-use Rattle.std.proofs.Common.{◌≡◌, ℕ, ◌+◌, ◌^◌, ◌<◌, List, [], ◌++◌, map, length, get_or, codes as text, sym, ap, ◌∙◌, subst, append_assoc, arith, length-append}
+use Rattle.std.proofs.Common.{◌≡◌, ℕ, suc, ◌+◌, ◌^◌, ◌<◌, ◌≤◌, List, [], ◌∷◌, ◌++◌, map, length, get_or, codes as text, sym, ap, ◌∙◌, subst, append_assoc, arith, length-append}
+use Rattle.std.specs.List.{AllByRecursion as All}
 use Rattle.std.proofs.lemmas.List.{get_or-map, length-map}
 use Rattle.samples.specs.declared.coded.Coded.{Ghosts as Codes}
 use Rattle.samples.specs.declared.kind.Kind.{Ghosts as Operations}
 use Rattle.mojette.specs.Bins.{bins, all_bins}
-use Rattle.mojette.specs.Meaning.{Meaning, shape_of}
+use Rattle.mojette.specs.Meaning.{Place, Meaning, shape_of}
 use Rattle.plan.specs.declared.places.Place.{Place as Laid}
 use Rattle.plan.specs.declared.plan.Plan.{Plan}
 use Rattle.plan.specs.Laid.{record_of, records_of, no_place as no_laid, place_at as laid_at}
 use Rattle.plan.specs.Shapes.{shape, places_of}
 use Rattle.source.specs.Questions.{no_record, no_place, place_at}
 use Rattle.source.proofs.Cuts.{place_within}
+use Rattle.format.specs.Format.{most_cause}
+use Rattle.format.specs.Laws.{Causes}
 use Rattle.format.specs.Texts.{head_text, end_text, places_text, file_text}
 use Rattle.writing.specs.Files.{place_lines, StandsFor}
 use Rattle.writing.proofs.OfPlaces.{lines_told}
@@ -68,3 +71,18 @@ module _ {S : Type 0} (K : Operations S) (C : Codes S) (m : Meaning S) where
       let head = head_text (text "tile") C.name m.P m.Q [] in
       let lines = place_lines K C m.P m.Q m.places in
       ap length (sym file_pieces) ∙ length-append (head ++ lines) end_text ∙ ap (λ n. n + 6) (length-append head lines)
+
+-- Causes ----------------------------------------------------------------------------------------------------------
+
+pub bytes_there :
+    (xs : List Laid) → ((k : ℕ) → k < length xs → (laid_at xs k).cause ≤ most_cause) → All (λ e. e.cause ≤ most_cause) (records_of xs)
+bytes_there [] h = tt
+bytes_there (x ∷ xs) h = (h 0 (omega arith), bytes_there xs (λ k l. h (suc k) (omega arith)))
+
+-- what holds of the causes of a shape's records holds of the meaning's
+causes_in : {S : Type 0} (xs : List (Place S)) → All (λ e. e.cause ≤ most_cause) (map (λ x. x.entry) xs) → All (λ x. x.entry.cause ≤ most_cause) xs
+causes_in [] h = tt
+causes_in (x ∷ xs) h = (h.0, causes_in xs h.1)
+
+pub causes_of : {S : Type 0} (plan : Plan) (m : Meaning S) → shape plan ≡ shape_of m → All (λ e. e.cause ≤ most_cause) (shape plan).records → Causes m
+causes_of plan m same h = causes_in m.places (subst (λ s. All (λ e. e.cause ≤ most_cause) s.records) same h)

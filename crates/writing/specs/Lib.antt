@@ -2,3 +2,4 @@ pub mod Splices
 pub mod Writers
 pub mod Lines
 pub mod Files
+pub mod ReadBack

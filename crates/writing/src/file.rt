@@ -1,7 +1,8 @@
 // Writing files.
-ghost use Rattle.std.specs.Prelude.{◌≡◌};
+ghost use Rattle.std.specs.Prelude.{◌≡◌, take, IfOk};
 ghost use Rattle.mojette.specs.Faults.{outcome};
 ghost use Rattle.writing.specs.Files.{file_filling};
+ghost use Rattle.writing.specs.ReadBack.{AnswersAs};
 
 use crate::place::file_len;
 use crate::writer::Writer;
@@ -10,11 +11,13 @@ use samples::Coded;
 use source::{Source, plan_of};
 
 // The text of a source: lawfulness first, then the length that is needed. What a source is asked after that, it answers.
+// Reading what was written gives a file that answers every question as the source does.
 pub fn write_file<K: Coded, S: Source<Sample = K>>(
     source: &S,
     out: &mut [u8],
 ) -> Result<usize, Fault>
-    ensures { (outcome result, out.new) ≡ file_filling K.Kind K.Coded.own (S.meaning source.now) out.old }
+    ensures value { (outcome result, out.new) ≡ file_filling K.Kind K.Coded.own (S.meaning source.now) out.old }
+    ensures read_back { IfOk result (λ n. AnswersAs K.Kind K.Coded.own (S.meaning source.now) (take n out.new)) }
 {
     let plan = plan_of(source)?;
     let needed = file_len::<K>(&plan);

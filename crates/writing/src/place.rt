@@ -1,11 +1,13 @@
 // Writing the parts of a file, and how long they are.
 ghost use Rattle.std.specs.Prelude.{◌≡◌, ◌^◌, ◌<◌, ◌≤◌, ◌++◌, true, [], length, decimal};
 ghost use Rattle.std.specs.Fmt.{signed_decimal};
+ghost use Rattle.std.specs.List.{AllByRecursion};
 ghost use Rattle.mojette.specs.Bins.{whole};
 ghost use Rattle.mojette.specs.Meaning.{shape_of};
 ghost use Rattle.plan.specs.Laid.{direction_of};
 ghost use Rattle.plan.specs.Shapes.{shape};
 ghost use Rattle.source.specs.Questions.{place_at, bins_at};
+ghost use Rattle.format.specs.Format.{most_cause};
 ghost use Rattle.format.specs.Texts.{direction_text, file_text};
 ghost use Rattle.writing.specs.Files.{StandsFor, codes_at, held_at, line_at, all_lines, IsLineLength, IsFileLength};
 ghost use Rattle.writing.specs.Writers.{has_room, Writes};
@@ -111,6 +113,7 @@ fn place_len<K: Coded>(place: &Place) -> usize
     requires { place.now.bins < 2 ^ 16 }
     ensures value { IsLineLength K.Kind K.Coded.own place.now result }
     ensures small { result ≤ 2 ^ 20 }
+    ensures byte { place.now.cause ≤ most_cause }
 {
     let steps = sign(place).len() + decimal_len(place.slope) + numbers_len(&[place.q]);
     let held = if place.cause == 0 {
@@ -121,9 +124,10 @@ fn place_len<K: Coded>(place: &Place) -> usize
     steps + held + 14
 }
 
-// How long the text of a source is, by its plan alone.
+// How long the text of a source is, by its plan alone. Each cause is read here, so that it is seen to be a byte: a greater one is in no file.
 pub(crate) fn file_len<K: Coded>(plan: &Plan) -> usize
-    ensures { IsFileLength K.Kind K.Coded.own plan.now result }
+    ensures value { IsFileLength K.Kind K.Coded.own plan.now result }
+    ensures bytes { AllByRecursion (λ e. e.cause ≤ most_cause) (shape plan.now).records }
 {
     let mut len = head_len(b"tile", K::kind_name(), plan.size()) + 6;
     for place in plan.places() {
