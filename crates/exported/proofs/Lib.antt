@@ -1,1 +1,3 @@
+pub mod Beyond
 pub mod Loads
+pub mod Refusals

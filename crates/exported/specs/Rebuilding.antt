@@ -1,5 +1,5 @@
 -- What rebuilding the tile of a rack answers, and what it leaves.
-use Rattle.std.specs.Prelude.{◌≡◌, ℕ, List}
+use Rattle.std.specs.Prelude.{◌≡◌, ℕ, List, drop}
 use Rattle.samples.specs.declared.words.SumWord.{SumWord}
 use Rattle.samples.specs.contracts.impls.SumWordKind.TheImpl.{ghosts as sum_operations}
 use Rattle.mojette.specs.declared.direction.Record.{Record}
@@ -28,3 +28,11 @@ rebuilding P Q records run t = works (racking P Q records run) t
 abbrev pub RebuildsRack : Outcome (Meaning SumWord) → Tables SumWord → runs.Answer → Tables SumWord → Type 0
 RebuildsRack (served m) before answer after = runs.Rebuilds sum_operations m before answer after
 RebuildsRack (refuses r) before answer after = (answer ≡ runs.refuses r) × (after ≡ before)
+
+-- Behind the cells of a tile with so many pixels and bins each table is as it was.
+pub record SameBeyond {S : Type 0} (pixels bins : ℕ) (before after : Tables S) : Type 0 where
+  pub picture : drop pixels after.picture ≡ drop pixels before.picture
+  pub marks : drop pixels after.marks ≡ drop pixels before.marks
+  pub sums : drop bins after.sums ≡ drop bins before.sums
+  pub counts : drop bins after.counts ≡ drop bins before.counts
+  pub queue : drop bins after.queue ≡ drop bins before.queue

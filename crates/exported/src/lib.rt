@@ -5,4 +5,6 @@
 mod projecting;
 mod reading;
 mod rebuilding;
+#[cfg(test)]
+mod tests;
 mod told;

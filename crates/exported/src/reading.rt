@@ -1,5 +1,5 @@
 // Reading a bracket file of sum words.
-ghost use Rattle.std.specs.Prelude.{◌≡◌, ◌≤◌, length};
+ghost use Rattle.std.specs.Prelude.{◌≡◌, ◌≤◌, length, drop};
 ghost use Rattle.samples.specs.contracts.codes.SumWordCoded.TheImpl.{ghosts as sum_codes};
 ghost use Rattle.mojette.specs.Faults.{outcome};
 ghost use Rattle.mojette.specs.Meaning.{shape_of, bins_of};
@@ -101,6 +101,7 @@ fn load_file(text: &[u8], sums: &mut [SumWord]) -> Result<usize, Fault>
 pub extern "C" fn mojette_ask(text: &[u8], sums: &mut [SumWord], refusal: &mut Refusal) -> usize
     ensures answer { (result, refusal.new) ≡ told (loading (asked_file (read_file sum_codes text.now)) sums.old).answer }
     ensures sums { sums.new ≡ (loading (asked_file (read_file sum_codes text.now)) sums.old).sums }
+    ensures beyond { drop result sums.new ≡ drop result sums.old }
 {
     let answer = load_file(text, sums);
     tell(answer, refusal)

@@ -1,9 +1,10 @@
 // Rebuilding the tile of a rack.
-ghost use Rattle.std.specs.Prelude.{◌≡◌, ◌≢◌};
+ghost use Rattle.std.specs.Prelude.{◌≡◌, ◌*◌, ◌≢◌};
+ghost use Rattle.mojette.specs.Bins.{all_bins};
 ghost use Rattle.mojette.specs.Faults.{outcome};
 ghost use Rattle.source.specs.Racks.{racking};
 ghost use Rattle.tile.specs.Outcomes.{tables};
-ghost use Rattle.exported.specs.Rebuilding.{pixels, rebuilding, RebuildsRack};
+ghost use Rattle.exported.specs.Rebuilding.{pixels, rebuilding, RebuildsRack, SameBeyond};
 ghost use Rattle.exported.specs.Told.{told};
 
 use crate::told::tell;
@@ -60,6 +61,13 @@ pub extern "C" fn mojette_rebuild(
     ensures run { let before = tables picture.old marks.old sums.old counts.old queue.old in
         let left = rebuilding columns rows records.now run.now before in
         RebuildsRack (racking columns rows records.now run.now) before left.0 left.1 }
+    // A refusal writes no table, but for a ghost that is shown (9), and for sums that no tile has (15).
+    ensures unwritten { let before = tables picture.old marks.old sums.old counts.old queue.old in
+        refusal.new.number ≢ 0 → refusal.new.number ≢ 9 → refusal.new.number ≢ 15 →
+        tables picture.new marks.new sums.new counts.new queue.new ≡ before }
+    ensures beyond { let before = tables picture.old marks.old sums.old counts.old queue.old in
+        let after = tables picture.new marks.new sums.new counts.new queue.new in
+        SameBeyond (columns * rows) (all_bins columns rows records.now) before after }
 {
     let answer = rebuild_rack(
         columns, rows, records, run, picture, marks, sums, counts, queue,
