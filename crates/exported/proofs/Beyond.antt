@@ -7,23 +7,22 @@ use Rattle.samples.specs.declared.words.SumWord.{SumWord}
 use Rattle.samples.specs.contracts.impls.SumWordKind.TheImpl.{ghosts as sum_operations}
 use Rattle.mojette.specs.declared.direction.Record.{Record}
 use Rattle.mojette.specs.Bins.{bins, start, all_bins}
-use Rattle.mojette.specs.Meaning.{Shape, Meaning, Place, shape_of, verdict, pixels_of, bins_of, no_record, no_place}
+use Rattle.mojette.specs.Meaning.{Shape, Meaning, shape_of, verdict, pixels_of, bins_of, no_record, no_place}
 use Rattle.mojette.specs.Refusals.{Refusal, refusal}
 use Rattle.peeling.specs.declared.state.State.{State}
 use Rattle.peeling.specs.Counting.{number, least}
 use Rattle.peeling.specs.Incidence.{Incidence}
 use Rattle.peeling.specs.Steps.{World, Taken, none_waits, bad_cell, grants, take_answers, filled, queue_with, append, queue_singles, lowered, take_off, placed, open_in, zeroed, take_off_all, find, peeled}
-use Rattle.peeling.specs.Steps.{seal as peel_seal, settle as peel_settle}
+use Rattle.peeling.specs.Steps.{seal as peel_seal}
 use Rattle.peeling.proofs.Counts.{least_some}
 use Rattle.law.proofs.Loading.{records_number}
 use Rattle.law.specs.Positions.{incidence}
-use Rattle.law.specs.Steps.{Stage, loading, peeling, Tables, Answer, done, granted, settled, refused, Outcome, served, refuse, peels_on, world_of, tables_of, blank, short, short_sums, short_queue, checked, fits, written, criterion, C, R, with_place, load, ghosted, with_ghost, seal, take_outcome, take, finds, settle, finish}
+use Rattle.law.specs.Steps.{Stage, loading, peeling, Tables, Answer, done, granted, settled, refused, Outcome, served, refuse, world_of, tables_of, blank, short, short_sums, short_queue, checked, fits, written, criterion, with_place, load, ghosted, seal, take_outcome, take, settle, finish}
 use Rattle.law.specs.Turns.{state_of, moved, spend, turn, turns, loaded}
-use Rattle.source.specs.Racks.{cut, rack_meaning, racking}
+use Rattle.source.specs.Racks.{cut, rack_meaning}
 use Rattle.source.specs.Questions as questions
 use Rattle.source.proofs.Cuts.{place_within}
 use Rattle.mojette.specs.Faults as outcomes
-use Rattle.runs.specs.Rebuilding as answers
 use Rattle.runs.specs.Worker.{ends, finishing, peels_from, sealing, with_tables, judged, one_worker}
 use Rattle.exported.specs.Reading.{Loaded, laid}
 use Rattle.exported.specs.Reading.{loading as file_loading}

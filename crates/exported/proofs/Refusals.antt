@@ -1,5 +1,5 @@
 -- What a refused rebuild leaves.
-use Rattle.std.proofs.Common.{◌≡◌, ℕ, refl}
+use Rattle.std.proofs.Common.{◌≡◌, refl}
 use Rattle.samples.specs.declared.words.SumWord.{SumWord}
 use Rattle.mojette.specs.Faults.{Outcome, served, refuses}
 use Rattle.mojette.specs.Meaning.{Meaning}

@@ -1,5 +1,5 @@
 -- What reading a bracket file of sum words answers, and what it leaves.
-use Rattle.std.specs.Prelude.{ℕ, zero, suc, cond, List, ◌++◌, map, length, drop, nat_lt}
+use Rattle.std.specs.Prelude.{ℕ, zero, suc, cond, List, ◌++◌, length, drop, nat_lt}
 use Rattle.samples.specs.declared.words.SumWord.{SumWord}
 use Rattle.samples.specs.contracts.impls.SumWordKind.TheImpl.{ghosts as sum_operations}
 use Rattle.mojette.specs.declared.direction.Record.{Record}

@@ -1,7 +1,6 @@
-use Rattle.std.proofs.Common.{◌≡◌, ◌+◌, ◌<◌, ◌≤◌, suc, length, ap, ◌∙◌, sym, subst, arith}
+use Rattle.std.proofs.Common.{◌≡◌, ◌+◌, ◌<◌, ◌≤◌, suc, length, ap, ◌∙◌, arith}
 use Rattle.samples.specs.contracts.impls.SumWordKind.TheImpl.{ghosts as sum_operations}
 use Rattle.mojette.specs.Meaning.{shape_of, bins_of}
-use Rattle.plan.specs.Shapes.{shape}
 use Rattle.law.specs.Steps.{with_place}
 use Rattle.source.specs.Questions.{place_at}
 use Rattle.runs.proofs.Turns.{same_number}

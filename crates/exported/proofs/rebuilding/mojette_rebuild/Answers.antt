@@ -1,7 +1,6 @@
 use Rattle.std.proofs.Common.{◌≡◌, ◌*◌, ap, sym, subst, ◌∙◌}
 use Rattle.mojette.specs.Bins.{all_bins}
 use Rattle.source.specs.Racks.{racking}
-use Rattle.mojette.specs.Refusals.{Refusal}
 use Rattle.tile.specs.Outcomes.{tables}
 use Rattle.exported.specs.Rebuilding.{pixels, rebuilding, SameBeyond}
 use Rattle.exported.specs.Told.{told}
