@@ -77,7 +77,7 @@ size_t mojette_project(size_t columns, size_t rows, int32_t p, int32_t q, const 
  *   queue    a number for each bin: T
  *
  * The five tables may hold anything before, and may be longer: the further cells are as they were. They hold the tile's work afterwards: marks 1 in
- * each pixel, sums 0 in each bin, counts 0 in each bin of a whole place.
+ * each pixel, sums 0 and counts 0 in each bin.
  *
  * Answers the number of pixels, columns * rows: the picture is the only one with these sums.
  * Refuses, and writes no table: 1 columns or rows outside 1 to 64; 2 no place, or more than 16; 3 a direction that is not lawful, 4 a direction not
