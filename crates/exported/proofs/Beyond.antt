@@ -299,7 +299,7 @@ module _ (m : Meaning SumWord) where
       ∙ laid_leaves n sums (omega arith)
 
 -- what loading a file leaves where its sums are too short, and else
-abbrev ending : Meaning SumWord → List SumWord → Bool → Loaded
+abbrev pub ending : Meaning SumWord → List SumWord → Bool → Loaded
 ending m sums c = cond c (record { answer = outcomes.refuses (refusal 5 3 0 0); sums = sums }) (record { answer = outcomes.served (bins_of (shape_of m)); sums = laid m (length m.places) sums })
 
 -- Behind as many cells as a call that asks a file tells, the sums are as they were.

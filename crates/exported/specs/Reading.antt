@@ -1,5 +1,5 @@
 -- What reading a bracket file of sum words answers, and what it leaves.
-use Rattle.std.specs.Prelude.{ℕ, zero, suc, cond, List, ◌++◌, length, drop, nat_lt}
+use Rattle.std.specs.Prelude.{◌≡◌, ℕ, zero, suc, cond, List, ◌++◌, length, drop, nat_lt}
 use Rattle.samples.specs.declared.words.SumWord.{SumWord}
 use Rattle.samples.specs.contracts.impls.SumWordKind.TheImpl.{ghosts as sum_operations}
 use Rattle.mojette.specs.declared.direction.Record.{Record}
@@ -9,6 +9,7 @@ use Rattle.mojette.specs.Refusals.{refusal}
 use Rattle.law.specs.Steps.{with_place}
 use Rattle.source.specs.declared.types.Sizes.{Sizes}
 use Rattle.source.specs.Questions.{asked_sizes, place_at}
+use Rattle.source.specs.Racks.{racking}
 
 -- an answer, with what the sizes and the records hold then
 pub record Described : Type 0 where
@@ -41,3 +42,8 @@ loading (served m) sums =
     cond (nat_lt (length sums) (bins_of (shape_of m)))
     (record { answer = refuses (refusal 5 3 0 0); sums = sums })
     (record { answer = served (bins_of (shape_of m)); sums = laid m (length m.places) sums })
+
+-- A rack of the file's sizes and records and this run means what the file means.
+abbrev pub MeansTheFile : Outcome (Meaning SumWord) → List SumWord → Type 0
+MeansTheFile (served m) run = racking m.P m.Q (shape_of m).records run ≡ served m
+MeansTheFile (refuses r) run = ⊥

@@ -1,13 +1,15 @@
 // Reading a bracket file of sum words.
-ghost use Rattle.std.specs.Prelude.{◌≡◌, ◌≤◌, length, drop};
+ghost use Rattle.std.specs.Prelude.{◌≡◌, ◌≤◌, length, take, drop};
 ghost use Rattle.samples.specs.contracts.codes.SumWordCoded.TheImpl.{ghosts as sum_codes};
+ghost use Rattle.samples.specs.contracts.impls.SumWordKind.TheImpl.{ghosts as sum_operations};
 ghost use Rattle.mojette.specs.Faults.{outcome};
 ghost use Rattle.mojette.specs.Meaning.{shape_of, bins_of};
 ghost use Rattle.plan.specs.Shapes.{shape};
 ghost use Rattle.tile.specs.States.{loaded_in};
 ghost use Rattle.format.specs.Format.{read_file};
+ghost use Rattle.format.specs.Laws.{OneText};
 ghost use Rattle.bracket.specs.Files.{asked_file, file_meaning};
-ghost use Rattle.exported.specs.Reading.{describing, laid, loading};
+ghost use Rattle.exported.specs.Reading.{describing, laid, loading, MeansTheFile};
 ghost use Rattle.exported.specs.Told.{told};
 
 use crate::told::tell;
@@ -85,6 +87,7 @@ fn load_all(mut tile: Loading, file: &BracketFile<SumWord>, plan: &Plan, sums: &
 fn load_file(text: &[u8], sums: &mut [SumWord]) -> Result<usize, Fault>
     ensures answer { outcome result ≡ (loading (asked_file (read_file sum_codes text.now)) sums.old).answer }
     ensures sums { sums.new ≡ (loading (asked_file (read_file sum_codes text.now)) sums.old).sums }
+    ensures law { OneText sum_operations sum_codes }
 {
     let file = BracketFile::<SumWord>::read(text)?;
     let mut plan = Plan::fresh();
@@ -102,6 +105,8 @@ pub extern "C" fn mojette_ask(text: &[u8], sums: &mut [SumWord], refusal: &mut R
     ensures answer { (result, refusal.new) ≡ told (loading (asked_file (read_file sum_codes text.now)) sums.old).answer }
     ensures sums { sums.new ≡ (loading (asked_file (read_file sum_codes text.now)) sums.old).sums }
     ensures beyond { drop result sums.new ≡ drop result sums.old }
+    // Served, they are the run of a rack that means what the file means.
+    ensures rack { refusal.new.number ≡ 0 → MeansTheFile (asked_file (read_file sum_codes text.now)) (take result sums.new) }
 {
     let answer = load_file(text, sums);
     tell(answer, refusal)
