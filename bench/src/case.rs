@@ -1,20 +1,23 @@
 //! Tiles to work on.
 
+use crate::plain::direction::{Direction, Record};
+use crate::plain::kind::SumWord;
+
 /// A tile with its places, the sums of all of them, and the picture that they sum.
 pub struct Tile {
     pub columns: usize,
     pub rows: usize,
-    pub p: Vec<i32>,
-    pub q: Vec<i32>,
-    pub causes: Vec<u8>,
-    pub sums: Vec<u16>,
-    pub picture: Vec<u16>,
+    pub records: Vec<Record>,
+    pub sums: Vec<SumWord>,
+    pub picture: Vec<SumWord>,
 }
 
-/// What a call writes.
+/// The tables that a call is lent.
+#[derive(PartialEq)]
 pub struct Lent {
-    pub picture: Vec<u16>,
+    pub picture: Vec<SumWord>,
     pub marks: Vec<u8>,
+    pub sums: Vec<SumWord>,
     pub counts: Vec<u8>,
     pub queue: Vec<u16>,
 }
@@ -57,7 +60,11 @@ impl Tile {
     /// A tile of random samples with so many of the sixteen places whole. The sums are worked out here by the definition.
     pub fn of(columns: usize, rows: usize, whole: usize) -> Tile {
         let mut random = Xorshift(0x9E37_79B9_7F4A_7C15);
-        let picture: Vec<u16> = (0..columns * rows).map(|_| random.next()).collect();
+        let picture: Vec<SumWord> = (0..columns * rows)
+            .map(|_| SumWord {
+                value: random.next(),
+            })
+            .collect();
         let mut sums = Vec::new();
         for (p, q, _) in DIRECTIONS {
             sums.extend(sums_by_definition(columns, rows, p, q, &picture));
@@ -65,11 +72,16 @@ impl Tile {
         Tile {
             columns,
             rows,
-            p: DIRECTIONS.iter().map(|d| d.0).collect(),
-            q: DIRECTIONS.iter().map(|d| d.1).collect(),
-            causes: DIRECTIONS
+            records: DIRECTIONS
                 .iter()
-                .map(|d| if d.2 <= PLACES - whole { d.2 as u8 } else { 0 })
+                .map(|&(p, q, lost)| Record {
+                    direction: Direction { p, q },
+                    cause: if lost <= PLACES - whole {
+                        lost as u8
+                    } else {
+                        0
+                    },
+                })
                 .collect(),
             sums,
             picture,
@@ -80,17 +92,17 @@ impl Tile {
     pub fn text(&self) -> String {
         let mut text = format!("(tile sum {} {})\n", self.columns, self.rows);
         let mut from = 0;
-        for i in 0..self.p.len() {
-            let (p, q) = (self.p[i], self.q[i]);
+        for record in &self.records {
+            let Direction { p, q } = record.direction;
             let bins = bins(self.columns, self.rows, p, q);
             text += &format!("(dir {p} {q} (");
-            if self.causes[i] == 0 {
+            if record.cause == 0 {
                 text += "bins";
                 for sum in &self.sums[from..from + bins] {
-                    text += &format!(" {sum:04X}");
+                    text += &format!(" {:04X}", sum.value);
                 }
             } else {
-                text += &format!("lost {}", self.causes[i]);
+                text += &format!("lost {}", record.cause);
             }
             text += "))\n";
             from += bins;
@@ -101,9 +113,11 @@ impl Tile {
 
 impl Lent {
     pub fn of(tile: &Tile) -> Lent {
+        let nine = SumWord { value: 9 };
         Lent {
-            picture: vec![9; tile.picture.len()],
+            picture: vec![nine; tile.picture.len()],
             marks: vec![9; tile.picture.len()],
+            sums: vec![nine; tile.sums.len()],
             counts: vec![9; tile.sums.len()],
             queue: vec![9; tile.sums.len()],
         }
@@ -115,13 +129,19 @@ fn bins(columns: usize, rows: usize, p: i32, q: i32) -> usize {
 }
 
 /// The sums of a direction by raw numbers.
-fn sums_by_definition(columns: usize, rows: usize, p: i32, q: i32, picture: &[u16]) -> Vec<u16> {
-    let mut sums = vec![0u16; bins(columns, rows, p, q)];
+fn sums_by_definition(
+    columns: usize,
+    rows: usize,
+    p: i32,
+    q: i32,
+    picture: &[SumWord],
+) -> Vec<SumWord> {
+    let mut sums = vec![SumWord { value: 0 }; bins(columns, rows, p, q)];
     let least = -(columns as i32 - 1) * q + (rows as i32 - 1) * p.min(0);
     for l in 0..rows {
         for k in 0..columns {
             let bin = (l as i32 * p - k as i32 * q - least) as usize;
-            sums[bin] = sums[bin].wrapping_add(picture[l * columns + k]);
+            sums[bin].value = sums[bin].value.wrapping_add(picture[l * columns + k].value);
         }
     }
     sums

@@ -6,6 +6,9 @@ mod proved;
 mod unproved;
 
 use case::{Lent, PLACES, Tile};
+use plain::direction::{Direction, Record};
+use plain::kind::SumWord;
+use plain::source::Sizes;
 use std::hint::black_box;
 use std::time::Instant;
 
@@ -61,10 +64,10 @@ fn compare(
     );
 }
 
-fn projecting(name: &str, plain: fn(&Tile, &mut [u16], u32) -> usize) {
+fn projecting(name: &str, plain: fn(&Tile, &mut [SumWord], u32) -> usize) {
     const TIMES: u32 = 8;
     let tile = Tile::of(64, 64, PLACES);
-    let mut sums = vec![0; tile.sums.len()];
+    let mut sums = vec![SumWord { value: 0 }; tile.sums.len()];
     let mut others = sums.clone();
     assert_eq!(proved::project(&tile, &mut sums, 1), tile.sums.len());
     assert_eq!(plain(&tile, &mut others, 1), tile.sums.len());
@@ -86,9 +89,7 @@ fn rebuilding(side: usize, whole: usize, way: &str, plain: fn(&Tile, &mut Lent, 
     assert_eq!(plain(&tile, &mut others, 1), side * side);
     assert_eq!(lent.picture, tile.picture);
     assert_eq!(others.picture, tile.picture);
-    assert!(
-        lent.marks == others.marks && lent.counts == others.counts && lent.queue == others.queue
-    );
+    assert!(lent == others);
     compare(
         &format!("rebuild, {side} by {side}, {whole} whole; plain {way}"),
         times,
@@ -101,10 +102,23 @@ fn reading() {
     let tile = Tile::of(64, 64, PLACES);
     let text = tile.text();
     let text = text.as_bytes();
-    let mut sums = vec![0; tile.sums.len()];
+    let mut sums = vec![SumWord { value: 0 }; tile.sums.len()];
     let mut others = sums.clone();
-    assert_eq!(proved::read(text), PLACES);
-    assert_eq!(unproved::read(text), PLACES);
+    let nowhere = Record {
+        direction: Direction { p: 0, q: 0 },
+        cause: 0,
+    };
+    let (mut sizes, mut other_sizes) = (Sizes::default(), Sizes::default());
+    let (mut records, mut other_records) = ([nowhere; PLACES], [nowhere; PLACES]);
+    assert_eq!(proved::read(text, &mut sizes, &mut records), PLACES);
+    assert_eq!(
+        unproved::read(text, &mut other_sizes, &mut other_records),
+        PLACES
+    );
+    assert_eq!((sizes.columns, sizes.rows, sizes.places), (64, 64, PLACES));
+    assert_eq!(sizes, other_sizes);
+    assert_eq!(records.as_slice(), tile.records);
+    assert_eq!(other_records.as_slice(), tile.records);
     assert_eq!(proved::ask(text, &mut sums), tile.sums.len());
     assert_eq!(unproved::ask(text, &mut others), tile.sums.len());
     assert_eq!(sums, tile.sums);
@@ -112,8 +126,8 @@ fn reading() {
     compare(
         &format!("read a file of {} bytes", text.len()),
         1,
-        || proved::read(black_box(text)),
-        || unproved::read(black_box(text)),
+        || proved::read(black_box(text), &mut sizes, &mut records),
+        || unproved::read(black_box(text), &mut other_sizes, &mut other_records),
     );
     compare(
         &format!("read it, and ask for all {} bins", sums.len()),

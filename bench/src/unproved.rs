@@ -1,4 +1,4 @@
-//! The same four calls over the plain code, with the same copies in and out, and no inlining into what times them.
+//! The same four calls over the plain code, on the same slices, and with no inlining into what times them.
 
 use crate::case::{Lent, Tile};
 use crate::plain;
@@ -6,37 +6,24 @@ use crate::plain::bracket::BracketFile;
 use crate::plain::direction::{Direction, Fault, Record};
 use crate::plain::kind::SumWord;
 use crate::plain::plan::Plan;
-use crate::plain::source::{Rack, Source};
-use crate::plain::tile::{Finished, Tables};
-
-const MOST_PIXELS: usize = 64 * 64;
-
-const MOST_BINS: usize = 16 * (2 * 63 * 7 + 1);
-
-const ZERO: SumWord = SumWord { value: 0 };
-
-fn words_of(numbers: &[u16], words: &mut [SumWord]) {
-    for (word, number) in words.iter_mut().zip(numbers) {
-        word.value = *number;
-    }
-}
-
-fn numbers_of(words: &[SumWord], numbers: &mut [u16]) {
-    for (number, word) in numbers.iter_mut().zip(words) {
-        *number = word.value;
-    }
-}
+use crate::plain::source::{Rack, Sizes, Source};
+use crate::plain::tile::{Finished, Tables, open};
 
 fn project_all(
     tile: &Tile,
-    cells: &[SumWord],
-    run: &mut [SumWord],
+    sums: &mut [SumWord],
     project: impl Fn(usize, usize, Direction, &[SumWord], &mut [SumWord]) -> Result<usize, Fault>,
 ) -> usize {
     let mut from = 0;
-    for (&p, &q) in tile.p.iter().zip(&tile.q) {
-        let direction = Direction { p, q };
-        match project(tile.columns, tile.rows, direction, cells, &mut run[from..]) {
+    for record in &tile.records {
+        let sums = &mut sums[from..];
+        match project(
+            tile.columns,
+            tile.rows,
+            record.direction,
+            &tile.picture,
+            sums,
+        ) {
             Ok(bins) => from += bins,
             Err(_) => return 0,
         }
@@ -46,28 +33,24 @@ fn project_all(
 
 fn project_times(
     tile: &Tile,
-    sums: &mut [u16],
+    sums: &mut [SumWord],
     times: u32,
     project: impl Fn(usize, usize, Direction, &[SumWord], &mut [SumWord]) -> Result<usize, Fault>,
 ) -> usize {
-    let mut cells = [ZERO; MOST_PIXELS];
-    words_of(&tile.picture, &mut cells);
-    let mut run = [ZERO; MOST_BINS];
     let mut bins = 0;
     for _ in 0..times {
-        bins = project_all(tile, &cells, &mut run, &project);
+        bins = project_all(tile, sums, &project);
     }
-    numbers_of(&run, sums);
     bins
 }
 
 #[inline(never)]
-pub fn project(tile: &Tile, sums: &mut [u16], times: u32) -> usize {
+pub fn project(tile: &Tile, sums: &mut [SumWord], times: u32) -> usize {
     project_times(tile, sums, times, plain::project::project)
 }
 
 #[inline(never)]
-pub fn project_rows(tile: &Tile, sums: &mut [u16], times: u32) -> usize {
+pub fn project_rows(tile: &Tile, sums: &mut [SumWord], times: u32) -> usize {
     project_times(tile, sums, times, plain::project::project_rows)
 }
 
@@ -91,67 +74,62 @@ fn rebuild_times(
     times: u32,
     rebuild: impl Fn(&Rack<SumWord>, &mut Plan, &mut Tables<SumWord>) -> Result<Finished, Fault>,
 ) -> usize {
-    let records: Vec<Record> = (0..tile.p.len())
-        .map(|i| Record {
-            direction: Direction {
-                p: tile.p[i],
-                q: tile.q[i],
-            },
-            cause: tile.causes[i],
-        })
-        .collect();
-    let mut run = [ZERO; MOST_BINS];
-    words_of(&tile.sums, &mut run);
-    let run = &run[..tile.sums.len()];
-    let mut cells = [ZERO; MOST_PIXELS];
-    let mut sums = [ZERO; MOST_BINS];
     let mut pixels = 0;
     for _ in 0..times {
-        let Ok(rack) = Rack::new(tile.columns, tile.rows, &records, run) else {
+        let Ok(rack) = Rack::new(tile.columns, tile.rows, &tile.records, &tile.sums) else {
             return 0;
         };
         let mut plan = Plan::fresh();
         let mut tables = Tables {
-            picture: &mut cells,
+            picture: &mut lent.picture,
             marks: &mut lent.marks,
-            sums: &mut sums,
+            sums: &mut lent.sums,
             counts: &mut lent.counts,
             queue: &mut lent.queue,
         };
         match rebuild(&rack, &mut plan, &mut tables) {
-            Ok(finished) => pixels = finished.picture(&cells).map_or(0, |own| own.len()),
+            Ok(finished) => {
+                pixels = finished.picture(tables.picture).map_or(0, |own| own.len());
+            }
             Err(_) => return 0,
         }
     }
-    numbers_of(&cells, &mut lent.picture);
     pixels
 }
 
 #[inline(never)]
-pub fn read(text: &[u8]) -> usize {
-    match BracketFile::<SumWord>::read(text) {
-        Ok(file) => file.sizes().places,
-        Err(_) => 0,
-    }
-}
-
-#[inline(never)]
-pub fn ask(text: &[u8], sums: &mut [u16]) -> usize {
+pub fn read(text: &[u8], sizes: &mut Sizes, records: &mut [Record]) -> usize {
     let Ok(file) = BracketFile::<SumWord>::read(text) else {
         return 0;
     };
-    let mut from = 0;
-    for i in 0..file.sizes().places {
-        for b in 0.. {
-            let Ok(word) = file.bin(i, b) else {
-                break;
-            };
-            let Some(sum) = sums.get_mut(from) else {
-                return from;
-            };
-            *sum = word.value;
-            from += 1;
+    let read = file.sizes();
+    let Some(records) = records.get_mut(..read.places) else {
+        return 0;
+    };
+    for (i, record) in records.iter_mut().enumerate() {
+        match file.place(i) {
+            Ok(found) => *record = found,
+            Err(_) => return 0,
         }
     }
-    from
+    *sizes = read;
+    read.places
+}
+
+#[inline(never)]
+pub fn ask(text: &[u8], sums: &mut [SumWord]) -> usize {
+    let Ok(file) = BracketFile::<SumWord>::read(text) else {
+        return 0;
+    };
+    let mut plan = Plan::fresh();
+    let Ok(mut tile) = open(&file, &mut plan) else {
+        return 0;
+    };
+    for _ in 0..plan.places().len() {
+        match tile.load(&file, &plan, sums) {
+            Ok(next) => tile = next,
+            Err(_) => return 0,
+        }
+    }
+    plan.total()
 }

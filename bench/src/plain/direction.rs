@@ -4,12 +4,14 @@ pub const MOST_SIDE: usize = 64;
 pub const MOST_PLACES: usize = 16;
 pub const MOST_STEP: u32 = 7;
 
+#[repr(C)]
 #[derive(Clone, Copy, Debug, PartialEq, Eq)]
 pub struct Direction {
     pub p: i32,
     pub q: i32,
 }
 
+#[repr(C)]
 #[derive(Clone, Copy, Debug, PartialEq, Eq)]
 pub struct Record {
     pub direction: Direction,

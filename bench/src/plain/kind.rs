@@ -19,6 +19,7 @@ pub trait Coded: Kind {
     fn from_number(n: u64) -> Self;
 }
 
+#[repr(C)]
 #[derive(Clone, Copy, Debug, PartialEq, Eq)]
 pub struct SumWord {
     pub value: u16,

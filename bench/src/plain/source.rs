@@ -4,7 +4,8 @@ use super::direction::{Direction, Fault, MOST_PLACES, Record, Size};
 use super::kind::Kind;
 use super::plan::Plan;
 
-#[derive(Clone, Copy, Debug, PartialEq, Eq)]
+#[repr(C)]
+#[derive(Clone, Copy, Debug, Default, PartialEq, Eq)]
 pub struct Sizes {
     pub columns: usize,
     pub rows: usize,

@@ -1,2 +1,3 @@
-pub mod Places
 pub mod Reading
+pub mod Rebuilding
+pub mod Told

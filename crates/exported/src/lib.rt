@@ -1,8 +1,10 @@
-// The bench's calls for programs in C and Rust, which bench/ times. Samples come and go as the numbers of their words. What is refused is
-// answered with 0.
+// The bench's calls for programs in C and Rust, at sum words; examples/mojette.h declares them. Each answers a number, and writes four numbers that tell
+// a refusal.
 #![tactic(auto)]
 
 mod projecting;
 mod reading;
 mod rebuilding;
-mod words;
+#[cfg(test)]
+mod tests;
+mod told;

@@ -1,64 +1,76 @@
-// Rebuilding a tile from a rack.
+// Rebuilding the tile of a rack.
+ghost use Rattle.std.specs.Prelude.{◌≡◌, ◌*◌, ◌≢◌};
+ghost use Rattle.mojette.specs.Bins.{all_bins};
+ghost use Rattle.mojette.specs.Faults.{outcome};
+ghost use Rattle.source.specs.Racks.{racking};
+ghost use Rattle.tile.specs.Outcomes.{tables};
+ghost use Rattle.exported.specs.Rebuilding.{pixels, rebuilding, RebuildsRack, SameBeyond};
+ghost use Rattle.exported.specs.Told.{told};
 
-ghost use Rattle.std.specs.Prelude.{◌≡◌, ℕ, ◌<◌, slice_index_or};
-ghost use Rattle.mojette.specs.Bounds.{most_places};
-ghost use Rattle.source.specs.Questions.{no_record};
-ghost use Rattle.exported.specs.Places.{record_of};
-
-use crate::words::{ZERO, numbers_of, record_at, words_of};
-use mojette::{MOST_PIXELS, MOST_PLACES, MOST_POSITIONS, Record};
+use crate::told::tell;
+use mojette::{Fault, Record, Refusal};
 use plan::Plan;
 use runs::rebuild::rebuild;
+use samples::SumWord;
 use source::Rack;
 
-// The records of the places, by their numbers.
-fn records_of(p: &[i32], q: &[i32], causes: &[u8]) -> [Record; MOST_PLACES]
-    ensures { (i : ℕ) → i < most_places → slice_index_or result i no_record ≡ record_of p.now q.now causes.now i }
-{
-    let mut records = [Record::new(0, 0, 0); MOST_PLACES];
-    for (i, entry) in records.iter_mut().enumerate() {
-        *entry = record_at(p, q, causes, i);
-    }
-    records
-}
-
-// Rebuilds a tile from the sums of its places, one after another, so many times over, and writes its picture. Answers how many pixels it has.
-#[unsafe(no_mangle)]
-pub extern "C" fn exported_rebuild(
+// Makes the rack and rebuilds its tile, and answers how many pixels it has.
+fn rebuild_rack(
     columns: usize,
     rows: usize,
-    p: &[i32],
-    q: &[i32],
-    causes: &[u8],
-    sums: &[u16],
-    picture: &mut [u16],
+    records: &[Record],
+    run: &[SumWord],
+    picture: &mut [SumWord],
     marks: &mut [u8],
+    sums: &mut [SumWord],
     counts: &mut [u8],
     queue: &mut [u16],
-    times: u32,
-) -> usize {
-    let records = records_of(p, q, causes);
-    let mut run = [ZERO; MOST_POSITIONS];
-    words_of(sums, &mut run);
-    let records = &records[..p.len().min(MOST_PLACES)];
-    let run = &run[..sums.len().min(MOST_POSITIONS)];
-    let mut cells = [ZERO; MOST_PIXELS];
-    let mut lent = [ZERO; MOST_POSITIONS];
-    let mut pixels = 0;
-    for _ in 0..times {
-        let Ok(rack) = Rack::new(columns, rows, records, run) else {
-            return 0;
-        };
-        let mut plan = Plan::fresh();
-        if rebuild(
-            &rack, &mut plan, &mut cells, marks, &mut lent, counts, queue,
-        )
-        .is_err()
-        {
-            return 0;
-        }
-        pixels = plan.pixels();
-    }
-    numbers_of(&cells, picture);
-    pixels
+) -> Result<usize, Fault>
+    ensures answer { let before = tables picture.old marks.old sums.old counts.old queue.old in
+        outcome result ≡ pixels (rebuilding columns rows records.now run.now before).0 }
+    ensures left { let before = tables picture.old marks.old sums.old counts.old queue.old in
+        tables picture.new marks.new sums.new counts.new queue.new ≡ (rebuilding columns rows records.now run.now before).1 }
+    ensures run { let before = tables picture.old marks.old sums.old counts.old queue.old in
+        let left = rebuilding columns rows records.now run.now before in
+        RebuildsRack (racking columns rows records.now run.now) before left.0 left.1 }
+{
+    let rack = Rack::new(columns, rows, records, run)?;
+    let mut plan = Plan::fresh();
+    rebuild(&rack, &mut plan, picture, marks, sums, counts, queue)?;
+    Ok(plan.pixels())
+}
+
+/// Rebuilds the tile of a rack on the caller's tables, and answers how many pixels the picture has.
+#[unsafe(no_mangle)]
+pub extern "C" fn mojette_rebuild(
+    columns: usize,
+    rows: usize,
+    records: &[Record],
+    run: &[SumWord],
+    picture: &mut [SumWord],
+    marks: &mut [u8],
+    sums: &mut [SumWord],
+    counts: &mut [u8],
+    queue: &mut [u16],
+    refusal: &mut Refusal,
+) -> usize
+    ensures answer { let before = tables picture.old marks.old sums.old counts.old queue.old in
+        (result, refusal.new) ≡ told (pixels (rebuilding columns rows records.now run.now before).0) }
+    ensures left { let before = tables picture.old marks.old sums.old counts.old queue.old in
+        tables picture.new marks.new sums.new counts.new queue.new ≡ (rebuilding columns rows records.now run.now before).1 }
+    ensures run { let before = tables picture.old marks.old sums.old counts.old queue.old in
+        let left = rebuilding columns rows records.now run.now before in
+        RebuildsRack (racking columns rows records.now run.now) before left.0 left.1 }
+    // A refusal writes no table, but for a ghost that is shown (9), and for sums that no tile has (15).
+    ensures unwritten { let before = tables picture.old marks.old sums.old counts.old queue.old in
+        refusal.new.number ≢ 0 → refusal.new.number ≢ 9 → refusal.new.number ≢ 15 →
+        tables picture.new marks.new sums.new counts.new queue.new ≡ before }
+    ensures beyond { let before = tables picture.old marks.old sums.old counts.old queue.old in
+        let after = tables picture.new marks.new sums.new counts.new queue.new in
+        SameBeyond (columns * rows) (all_bins columns rows records.now) before after }
+{
+    let answer = rebuild_rack(
+        columns, rows, records, run, picture, marks, sums, counts, queue,
+    );
+    tell(answer, refusal)
 }

@@ -2,7 +2,8 @@
 ghost use Rattle.std.specs.Prelude.{◌≡◌};
 
 // The direction (p, q): its lines step p columns to the right and q rows down. Callers hand in any two numbers; what is lawful is asked by
-// clauses where it is needed.
+// clauses where it is needed. Laid out as in C, since a record is.
+#[repr(C)]
 #[derive(Clone, Copy, Debug, PartialEq, Eq)]
 pub struct Direction {
     pub p: i32,
@@ -10,7 +11,8 @@ pub struct Direction {
 }
 
 // A place of a plan: a direction, and why its projection is lost; cause 0 for a whole one. Records are cells of lent tables, whose
-// cause is a byte by the rules, and is compared as one where it is asked for.
+// cause is a byte by the rules, and is compared as one where it is asked for. Laid out as in C, where programs lend rows of them.
+#[repr(C)]
 #[derive(Clone, Copy, Debug, PartialEq, Eq)]
 pub struct Record {
     pub direction: Direction,

@@ -76,7 +76,8 @@ pub enum Fault {
 }
 
 // A refusal by its number, with the three values that it tells: 0 where it tells nothing. These are the numbers that docs/REFUSALS.md gives
-// and files show; code tells refusals apart by `Fault`.
+// and files show; code tells refusals apart by `Fault`. Laid out as in C, where programs are told them.
+#[repr(C)]
 #[derive(Clone, Copy, Debug, PartialEq, Eq)]
 pub struct Refusal {
     pub number: usize,

@@ -2,7 +2,8 @@
 // The ghost fields make the group laws hold of every value of a type: without them a `u16` is any number in the logic.
 ghost use Rattle.std.specs.Prelude.{◌^◌, ◌<◌};
 
-// A sum word: a whole number modulo 65,536.
+// A sum word: a whole number modulo 65,536. Laid out as in C, where programs lend rows of them.
+#[repr(C)]
 #[derive(Clone, Copy, Debug, PartialEq, Eq)]
 pub struct SumWord {
     pub value: u16,

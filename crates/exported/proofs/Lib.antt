@@ -1,0 +1,4 @@
+pub mod Asked
+pub mod Beyond
+pub mod Loads
+pub mod Refusals
