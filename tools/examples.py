@@ -3,7 +3,7 @@
     python3 tools/examples.py [PROGRAM ..]     exit status 1 on a difference
 
 PROGRAM is a command, by default the program that tools/rebuild builds, crates/rebuild/out/rebuild.
-What is stored comes from the rules, worked out by hand, or from reference/mojette.py, never from the program.
+What is stored is made by reference/mojette.py, never by the program.
 """
 
 import glob
