@@ -2,7 +2,7 @@
 use Rattle.std.specs.Prelude.{◌≡◌, ℕ, ◌*◌, ◌<◌, ◌≤◌, true, false, cond, ◌&&◌, ◌⊎◌, ◌↔◌, List, ◌∷◌, length, take as first, Some, None, Option, ◌==◌, slice_index_or, suc, ◌-◌}
 use Rattle.samples.specs.declared.kind.Kind.{Ghosts as Operations}
 use Rattle.mojette.specs.Meaning.{Shape, Meaning, Agrees, Ghost, shape_of, bins_of}
-use Rattle.mojette.specs.Refusals.{Refusal, refusal}
+use Rattle.mojette.specs.Refusals.{Refusal, no_place_to_load, unloaded_places, ghost_left, nothing_waits, missing_pixels, outstanding_grants}
 use Rattle.peeling.specs.declared.state.State.{State}
 use Rattle.peeling.specs.Counting.{number, tally, least}
 use Rattle.peeling.specs.History.{missing, missing_in, waits, out, settles}
@@ -27,7 +27,7 @@ module _ {S : Type 0} (K : Operations S) (m : Meaning S) where
 
   -- the refusal for a ghost
   abbrev pub ghosts_remain : Answer
-  ghosts_remain = refused (refusal 9 (C (shape_of m)) (R (shape_of m)) 0)
+  ghosts_remain = refused (ghost_left (C (shape_of m)) (R (shape_of m)))
 
   -- After the calls h: the pixel in cell c is missing, or found; so many pixels of bin b are missing; bin b waits;
   -- so many grants of bin b are out; so many settles were served.
@@ -60,9 +60,9 @@ module _ {S : Type 0} (K : Operations S) (m : Meaning S) where
     pub loaded_is : n ≡ loaded_places h
     -- Load is served while places are left, and else refuses.
     pub load_serves : loaded_places h < length m.places → (load K (shape_of m) m n t).answer ≡ done
-    pub load_ends : loaded_places h ≡ length m.places → (load K (shape_of m) m n t).answer ≡ refused (refusal 6 0 0 0)
+    pub load_ends : loaded_places h ≡ length m.places → (load K (shape_of m) m n t).answer ≡ refused no_place_to_load
     -- Seal tells how many are left, while some are.
-    pub seal_waits : loaded_places h < length m.places → (seal K (shape_of m) n t).answer ≡ refused (refusal 8 (length m.places - loaded_places h) 0 0)
+    pub seal_waits : loaded_places h < length m.places → (seal K (shape_of m) n t).answer ≡ refused (unloaded_places (length m.places - loaded_places h))
     -- Seal, once every place is loaded, is served, or refuses for a ghost: exactly when there is one. The picture then holds one.
     pub seal_answers : loaded_places h ≡ length m.places →
         ((seal K (shape_of m) n t).answer ≡ done) ⊎ ((seal K (shape_of m) n t).answer ≡ ghosts_remain)
@@ -78,7 +78,7 @@ module _ {S : Type 0} (K : Operations S) (m : Meaning S) where
         (b : ℕ) × (b < T) × (missing_of h b ≡ 1) × (Waits h b ⊎ (0 < grants_of h b))
     -- Take is refused exactly when no bin waits, and for that reason alone; it grants a bin that waits.
     pub take_refuses : Refused (take K (shape_of m) s t).answer ↔ ((b : ℕ) → b < T → ¬ (Waits h b))
-    pub take_tells : (r : Refusal) → (take K (shape_of m) s t).answer ≡ refused r → r ≡ refusal 10 0 0 0
+    pub take_tells : (r : Refusal) → (take K (shape_of m) s t).answer ≡ refused r → r ≡ nothing_waits
     pub take_grants : (b : ℕ) → (take K (shape_of m) s t).answer ≡ granted b → (b < T) × Waits h b
     -- A settle with a grant that is out is served: it tells the pixel that alone is missing in its bin, if one is, and
     -- how many pixels are then missing. So is a give back.
@@ -95,9 +95,9 @@ module _ {S : Type 0} (K : Operations S) (m : Meaning S) where
         (tile : List S) → Agrees K m tile → slice_index_or tile c K.zero ≡ slice_index_or t.picture c K.zero
     -- Finish tells how many pixels are missing, while some are; and else how many grants are out, while some are.
     pub finish_misses : (n : ℕ) → number (m.P * m.Q) (missing (incidence (shape_of m)) (since_seal h)) ≡ suc n →
-        (finish K (shape_of m) s t).answer ≡ refused (refusal 13 (suc n) 0 0)
+        (finish K (shape_of m) s t).answer ≡ refused (missing_pixels (suc n))
     pub finish_waits : ((c : ℕ) → c < m.P * m.Q → Found h c) → (n : ℕ) → tally T (grants_of h) ≡ suc n →
-        (finish K (shape_of m) s t).answer ≡ refused (refusal 14 (suc n) 0 0)
+        (finish K (shape_of m) s t).answer ≡ refused (outstanding_grants (suc n))
     -- Finish, with no pixel missing and no grant out, is served exactly when some tile agrees with the source.
     -- The picture then holds that tile, and no other agrees.
     pub finish_serves : ((c : ℕ) → c < m.P * m.Q → Found h c) → ((b : ℕ) → b < T → grants_of h b ≡ 0) →
@@ -123,7 +123,7 @@ module _ {S : Type 0} (K : Operations S) (m : Meaning S) where
 abbrev pub RefusalsKeep : {S : Type 0} → Operations S → Type 0
 RefusalsKeep {S} K = (shape : Shape) (m : Meaning S) (c : Call) (stage : Stage) (t : Tables S) (o : Outcome S) → Does K shape m c stage t o →
     (r : Refusal) → o.answer ≡ refused r →
-    (o.stage ≡ stage) × ((o.tables ≡ t) ⊎ ((c ≡ seals) × (r ≡ refusal 9 (C shape) (R shape) 0) × (o.tables ≡ with_ghost K shape t)))
+    (o.stage ≡ stage) × ((o.tables ≡ t) ⊎ ((c ≡ seals) × (r ≡ ghost_left (C shape) (R shape)) × (o.tables ≡ with_ghost K shape t)))
 
 -- The law, for a kind of sample: which meanings are opened; what a refused call leaves; which sum is told as left over; and whatever a source means,
 -- whatever calls a tile has met since the open that gave it, in whatever order and number, the facts hold.

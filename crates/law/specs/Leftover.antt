@@ -1,9 +1,9 @@
--- Which sum refusal 15 tells.
+-- Which sum the refusal for a leftover sum tells.
 use Rattle.std.specs.Prelude.{◌≡◌, ℕ, ◌+◌, ◌<◌, ◌≤◌, ◌↔◌, List, length, slice_index_or}
 use Rattle.samples.specs.declared.kind.Kind.{Ghosts as Operations}
 use Rattle.mojette.specs.Bins.{bins, start}
 use Rattle.mojette.specs.Meaning.{no_record, Shape, bins_of}
-use Rattle.mojette.specs.Refusals.{refusal}
+use Rattle.mojette.specs.Refusals.{leftover_sum}
 use Rattle.peeling.specs.declared.state.State.{State}
 use Rattle.law.specs.Steps.{Tables, refused, finish}
 
@@ -19,5 +19,5 @@ module _ {S : Type 0} (K : Operations S) (shape : Shape) where
   -- there the first sum is left over.
   abbrev pub TellsLeft : Type 0
   TellsLeft =
-      (s : State) (t : Tables S) (i b : ℕ) → ((finish K shape s t).answer ≡ refused (refusal 15 i b 0))
+      (s : State) (t : Tables S) (i b : ℕ) → ((finish K shape s t).answer ≡ refused (leftover_sum i b))
       ↔ ((bins_of shape ≤ length t.sums) × (s.left ≡ 0) × (s.out ≡ 0) × FirstLeft t.sums i b)

@@ -6,7 +6,7 @@ use Rattle.mojette.specs.Bins.{bins, whole, start, whole_directions}
 use Rattle.mojette.specs.Directions.{equal, columns, rows}
 use Rattle.mojette.specs.Meaning.{Shape, Place, Meaning, pixels_of, bins_of}
 pub use Rattle.mojette.specs.Meaning.{no_record, no_place}
-use Rattle.mojette.specs.Refusals.{Refusal, refusal}
+use Rattle.mojette.specs.Refusals.{Refusal, short_table, no_place_to_load, other_source, unloaded_places, ghost_left, nothing_waits, wrong_cell, wrong_grant, missing_pixels, outstanding_grants, leftover_sum}
 use Rattle.katz.specs.Made.{made, cell_of}
 use Rattle.katz.specs.Sets.{enough}
 use Rattle.peeling.specs.declared.state.State.{State}
@@ -79,7 +79,7 @@ short_queue shape t = cond (nat_lt (length t.queue) (bins_of shape)) 5 0
 -- a call on tables of which table k is the first that is too short
 abbrev pub checked : {S : Type 0} → ℕ → Stage → Tables S → Outcome S → Outcome S
 checked zero stage t outcome = outcome
-checked (suc k) stage t outcome = refuse stage t (refusal 5 (suc k) 0 0)
+checked (suc k) stage t outcome = refuse stage t (short_table (suc k))
 
 -- Load ----------------------------------------------------------------------------------------------------------
 
@@ -124,8 +124,8 @@ module _ {S : Type 0} (K : Operations S) (shape : Shape) where
   unfoldable pub load : Meaning S → ℕ → Tables S → Outcome S
   load m n t =
       checked (short_sums shape t) (loading n) t
-      (cond (nat_le (length shape.records) n) (refuse (loading n) t (refusal 6 0 0 0))
-      (cond (not (fits shape m n)) (refuse (loading n) t (refusal 7 0 0 0))
+      (cond (nat_le (length shape.records) n) (refuse (loading n) t no_place_to_load)
+      (cond (not (fits shape m n)) (refuse (loading n) t other_source)
       (served (loading (n + 1)) (record {
         picture = t.picture;
         marks = t.marks;
@@ -146,15 +146,15 @@ module _ {S : Type 0} (K : Operations S) (shape : Shape) where
   unfoldable pub seal : ℕ → Tables S → Outcome S
   seal n t =
       checked (short shape t) (loading n) t
-      (cond (nat_lt n (length shape.records)) (refuse (loading n) t (refusal 8 (length shape.records - n) 0 0))
-      (cond (not (criterion shape)) (refuse (loading n) (with_ghost t) (refusal 9 (C shape) (R shape) 0))
+      (cond (nat_lt n (length shape.records)) (refuse (loading n) t (unloaded_places (length shape.records - n)))
+      (cond (not (criterion shape)) (refuse (loading n) (with_ghost t) (ghost_left (C shape) (R shape)))
       (peels_on (peel_seal K (incidence shape) (world_of blank t)) done)))
 
   -- Take, settle, give back -------------------------------------------------------------------------------------
 
   abbrev pub take_outcome : State → Tables S → Taken → Outcome S
-  take_outcome s t none_waits = refuse (peeling s) t (refusal 10 0 0 0)
-  take_outcome s t (bad_cell i) = refuse (peeling s) t (refusal 11 i 0 0)
+  take_outcome s t none_waits = refuse (peeling s) t nothing_waits
+  take_outcome s t (bad_cell i) = refuse (peeling s) t (wrong_cell i)
   take_outcome s t (grants b) = peels_on (peel_take K (incidence shape) (world_of s t)) (granted b)
 
   unfoldable pub take : State → Tables S → Outcome S
@@ -169,23 +169,23 @@ module _ {S : Type 0} (K : Operations S) (shape : Shape) where
   unfoldable pub settle : ℕ → State → Tables S → Outcome S
   settle b s t =
       checked (short shape t) (peeling s) t
-      (cond (nat_le (bins_of shape) b) (refuse (peeling s) t (refusal 12 0 0 0))
+      (cond (nat_le (bins_of shape) b) (refuse (peeling s) t wrong_grant)
       (peels_on (peel_settle K (incidence shape) b (world_of s t))
       (settled (finds b (world_of s t)) (peel_settle K (incidence shape) b (world_of s t)).state.left)))
 
   unfoldable pub give_back : ℕ → State → Tables S → Outcome S
   give_back b s t =
       checked (short_queue shape t) (peeling s) t
-      (cond (nat_le (bins_of shape) b) (refuse (peeling s) t (refusal 12 0 0 0))
+      (cond (nat_le (bins_of shape) b) (refuse (peeling s) t wrong_grant)
       (peels_on (peel_give_back K (incidence shape) b (world_of s t)) done))
 
   -- Finish ------------------------------------------------------------------------------------------------------
 
   abbrev pub finish_outcome : State → Tables S → Finished → Outcome S
-  finish_outcome s t (pixels_missing n) = refuse (peeling s) t (refusal 13 n 0 0)
-  finish_outcome s t (grants_out n) = refuse (peeling s) t (refusal 14 n 0 0)
+  finish_outcome s t (pixels_missing n) = refuse (peeling s) t (missing_pixels n)
+  finish_outcome s t (grants_out n) = refuse (peeling s) t (outstanding_grants n)
   finish_outcome s t (left_over x) =
-      refuse (peeling s) t (refusal 15 (place_at shape.P shape.Q shape.records x) (bin_at shape.P shape.Q shape.records x) 0)
+      refuse (peeling s) t (leftover_sum (place_at shape.P shape.Q shape.records x) (bin_at shape.P shape.Q shape.records x))
   finish_outcome s t all_zero = served finished t done
 
   unfoldable pub finish : State → Tables S → Outcome S

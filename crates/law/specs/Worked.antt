@@ -5,7 +5,7 @@ use Rattle.samples.specs.declared.words.SumWord.{SumWord}
 use Rattle.samples.specs.Kinds.{sum_words}
 use Rattle.samples.specs.Words.{sum_of}
 use Rattle.mojette.specs.Meaning.{Place, Meaning}
-use Rattle.mojette.specs.Refusals.{refusal}
+use Rattle.mojette.specs.Refusals.{ghost_left, leftover_sum}
 use Rattle.peeling.specs.declared.state.State.{State}
 use Rattle.law.specs.Steps.{loading, peeling, finished, Tables, done, granted, settled, refused}
 use Rattle.law.specs.Life.{History, opens, loads, seals, takes, settles, gives_back, finishes, event, Life}
@@ -69,7 +69,7 @@ diagonal = record { P = 2; Q = 2; places = place (negsuc 0) (pos 1) 0 (4 ∷ 5 �
 pub record IsRefused : Type 0 where
   pub calls : History
   pub tables : Tables SumWord
-  pub life : Life sum_words diagonal (event seals (refused (refusal 9 1 1 0)) ∷ calls) (loading 1) tables
+  pub life : Life sum_words diagonal (event seals (refused (ghost_left 1 1)) ∷ calls) (loading 1) tables
   pub shows : cells diagonal tables ≡ 0 ∷ 1 ∷ 0xFFFF ∷ 0 ∷ []
 
 -- Two whole places that no tile agrees with: 2 5 3 and 4 6 1.
@@ -85,7 +85,7 @@ pub record IsContradicted : Type 0 where
   pub calls : History
   pub state : State
   pub tables : Tables SumWord
-  pub life : Life sum_words contradiction (event finishes (refused (refusal 15 1 1 0)) ∷ calls) (peeling state) tables
+  pub life : Life sum_words contradiction (event finishes (refused (leftover_sum 1 1)) ∷ calls) (peeling state) tables
   pub found : state.left ≡ 0
 
 -- Worked, further: a grant given back, and a tile that is contradicted.

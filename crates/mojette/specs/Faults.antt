@@ -6,7 +6,7 @@ use Rattle.mojette.specs.declared.fault.Reason.{Reason}
 use Rattle.mojette.specs.declared.fault.Reason.TheVariants as reasons
 use Rattle.mojette.specs.declared.fault.Table.{Table}
 use Rattle.mojette.specs.declared.fault.Table.TheVariants.{Picture, Marks, Sums, Counts, Queue}
-use Rattle.mojette.specs.Refusals.{Refusal, refusal}
+use Rattle.mojette.specs.Refusals.{Refusal, unlawful_size, unlawful_place_count, unlawful_direction, disordered_direction, short_table, no_place_to_load, other_source, unloaded_places, ghost_left, nothing_waits, wrong_cell, wrong_grant, missing_pixels, outstanding_grants, leftover_sum, no_such_place, lost_place, no_such_bin, wrong_run_length, unreadable_text, short_output, oversize}
 
 abbrev pub table_number : Table → ℕ
 table_number Picture = 1
@@ -23,28 +23,28 @@ reason_number reasons.Direction = 3
 reason_number reasons.Order = 4
 
 abbrev pub refusal_of : Fault → Refusal
-refusal_of Size = refusal 1 0 0 0
-refusal_of PlaceCount = refusal 2 0 0 0
-refusal_of (Unlawful i) = refusal 3 i 0 0
-refusal_of (Disorder i) = refusal 4 i 0 0
-refusal_of (ShortTable t) = refusal 5 (table_number t) 0 0
-refusal_of AllLoaded = refusal 6 0 0 0
-refusal_of OtherSource = refusal 7 0 0 0
-refusal_of (NotLoaded n) = refusal 8 n 0 0
-refusal_of (Ghost c r) = refusal 9 c r 0
-refusal_of NoneWaits = refusal 10 0 0 0
-refusal_of (BadCell i) = refusal 11 i 0 0
-refusal_of BadGrant = refusal 12 0 0 0
-refusal_of (PixelsMissing n) = refusal 13 n 0 0
-refusal_of (GrantsOut n) = refusal 14 n 0 0
-refusal_of (LeftOver i b) = refusal 15 i b 0
-refusal_of NoPlace = refusal 16 0 0 0
-refusal_of (Lost c) = refusal 17 c 0 0
-refusal_of NoBin = refusal 18 0 0 0
-refusal_of (RunLength n) = refusal 19 n 0 0
-refusal_of (NoFile f) = refusal 20 f.line f.text.byte (reason_number f.text.reason)
-refusal_of (ShortOutput n) = refusal 21 n 0 0
-refusal_of Oversize = refusal 22 0 0 0
+refusal_of Size = unlawful_size
+refusal_of PlaceCount = unlawful_place_count
+refusal_of (Unlawful i) = unlawful_direction i
+refusal_of (Disorder i) = disordered_direction i
+refusal_of (ShortTable t) = short_table (table_number t)
+refusal_of AllLoaded = no_place_to_load
+refusal_of OtherSource = other_source
+refusal_of (NotLoaded n) = unloaded_places n
+refusal_of (Ghost c r) = ghost_left c r
+refusal_of NoneWaits = nothing_waits
+refusal_of (BadCell i) = wrong_cell i
+refusal_of BadGrant = wrong_grant
+refusal_of (PixelsMissing n) = missing_pixels n
+refusal_of (GrantsOut n) = outstanding_grants n
+refusal_of (LeftOver i b) = leftover_sum i b
+refusal_of NoPlace = no_such_place
+refusal_of (Lost c) = lost_place c
+refusal_of NoBin = no_such_bin
+refusal_of (RunLength n) = wrong_run_length n
+refusal_of (NoFile f) = unreadable_text f.line f.text.byte (reason_number f.text.reason)
+refusal_of (ShortOutput n) = short_output n
+refusal_of Oversize = oversize
 
 -- the refusal that a call answered, if it refused
 abbrev pub refused : {A : Type 0} → Result A Fault → Option Refusal

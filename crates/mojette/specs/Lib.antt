@@ -5,5 +5,6 @@ pub mod Transform
 pub mod Ghosts
 pub mod Refusals
 pub mod Faults
+pub mod Sentences
 pub mod Meaning
 pub mod TenBits

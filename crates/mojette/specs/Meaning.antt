@@ -9,7 +9,7 @@ use Rattle.mojette.specs.Bounds.{most_side, most_places}
 use Rattle.mojette.specs.Directions.{lawful, before}
 use Rattle.mojette.specs.Bins.{bins, whole, all_bins, whole_directions}
 use Rattle.mojette.specs.Ghosts.{Ghost as DirectionGhost}
-use Rattle.mojette.specs.Refusals.{Refusal, refusal}
+use Rattle.mojette.specs.Refusals.{Refusal, unlawful_size, unlawful_place_count, unlawful_direction, disordered_direction}
 use Rattle.mojette.specs.Transform.{bin_sum}
 
 -- The shape of a tile: P columns, Q rows, and the records of its places.
@@ -52,7 +52,7 @@ side_ok n = nat_le 1 n && nat_le n most_side
 
 -- the refusal of the sizes, none where a tile may have them
 abbrev pub sides_verdict : ℕ → ℕ → Option Refusal
-sides_verdict P Q = cond (side_ok P && side_ok Q) None (Some (refusal 1 0 0 0))
+sides_verdict P Q = cond (side_ok P && side_ok Q) None (Some unlawful_size)
 
 abbrev pub number_ok : ℕ → Bool
 number_ok n = nat_le 1 n && nat_le n most_places
@@ -67,15 +67,17 @@ abbrev pub places_verdict : ℕ → Option Direction → List Record → Option 
 places_verdict i last [] = None
 places_verdict i last (e ∷ es) =
     cond (lawful e.direction)
-    (cond (follows last e.direction) (places_verdict (suc i) (Some e.direction) es) (Some (refusal 4 i 0 0)))
-    (Some (refusal 3 i 0 0))
+    (cond (follows last e.direction)
+    (places_verdict (suc i) (Some e.direction) es)
+    (Some (disordered_direction i)))
+    (Some (unlawful_direction i))
 
 -- The first refusal of a shape: its sizes, its number of places, then each place in turn. None where it is lawful.
 unfoldable pub verdict : Shape → Option Refusal
 verdict s =
     cond (side_ok s.P && side_ok s.Q)
-    (cond (number_ok (length s.records)) (places_verdict 0 None s.records) (Some (refusal 2 0 0 0)))
-    (Some (refusal 1 0 0 0))
+    (cond (number_ok (length s.records)) (places_verdict 0 None s.records) (Some unlawful_place_count))
+    (Some unlawful_size)
 
 abbrev pub Lawful : Shape → Type 0
 Lawful s = verdict s ≡ None

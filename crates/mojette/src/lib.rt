@@ -1,4 +1,5 @@
-// The words of the bench: directions, records, refusals; and the definition of the Mojette transform.
+//! The words of the bench: directions, records, sizes and refusals. Its definitions say what the
+//! Mojette transform is, which sources and tiles are lawful, and what each refusal tells.
 #![tactic(auto)]
 
 pub mod direction;
@@ -6,6 +7,7 @@ pub mod fault;
 pub mod order;
 pub mod passing;
 pub mod refusal;
+pub mod sentences;
 pub mod sides;
 pub mod size;
 

@@ -1,4 +1,4 @@
-// Which directions are lawful, and their order.
+//! Which directions are lawful, and their order; and the bounds of the bench.
 ghost use Rattle.std.specs.Prelude.{◌≡◌};
 ghost use Rattle.mojette.specs.Bounds.{most_side, most_pixels, most_places, most_step, most_bins, most_positions};
 ghost use Rattle.mojette.specs.Directions.{gcd as gcd_of, Euclid, level_right, lawful, before};
@@ -6,21 +6,22 @@ ghost use Rattle.mojette.specs.Meaning.{follows};
 
 use crate::direction::Direction;
 
-// The most columns, and the most rows, of a tile.
+/// The most columns, and the most rows, of a tile.
 pub const MOST_SIDE: usize = 64;
-// The most pixels of a tile.
+/// The most pixels of a tile.
 pub const MOST_PIXELS: usize = MOST_SIDE * MOST_SIDE;
-// The most places of a plan.
+/// The most places of a plan.
 pub const MOST_PLACES: usize = 16;
-// The most of |p|, and of q.
+/// The most of |p|, and of q, in a lawful direction.
 pub const MOST_STEP: u32 = 7;
 
-// The most bins of a direction: no lawful one has the most of both |p| and q.
+/// The most bins of a lawful direction: none has the most of both |p| and q.
 pub const MOST_BINS: usize = (MOST_SIDE - 1) * (2 * MOST_STEP as usize - 1) + 1;
-// The most positions of a tile: the bins of all places of its plan.
+/// The most positions of a tile: the bins of all places of its plan.
 pub const MOST_POSITIONS: usize = MOST_PLACES * MOST_BINS;
 
-// The bounds that the code has are those of the definitions. Six numbers in a row, since nothing takes them but this promise.
+/// The bounds that the code has, which are those of the definitions. Six numbers in a row, since
+/// nothing takes them but this promise.
 pub fn bounds() -> (usize, usize, u32, usize, usize, usize)
     ensures given { (result.0 ≡ most_side) × ((result.1 ≡ most_places) × (result.2 ≡ most_step)) }
     ensures pixels { result.3 ≡ most_pixels }
@@ -37,7 +38,7 @@ pub fn bounds() -> (usize, usize, u32, usize, usize, usize)
     )
 }
 
-// The greatest common divisor, by Euclid's rule.
+/// The greatest common divisor, by Euclid's rule: of 0 and 0 it is 0.
 pub fn gcd(a: u32, b: u32) -> u32
     ensures value { result ≡ gcd_of a b }
     ensures rule { Euclid }
@@ -46,14 +47,15 @@ pub fn gcd(a: u32, b: u32) -> u32
 }
 
 impl Direction {
-    // Where q is 0, p is 1.
+    /// Where q is 0, p is 1.
     fn is_level_right(self) -> bool
         ensures { result ≡ level_right self }
     {
         self.q != 0 || self.p == 1
     }
 
-    // |p| and q at most 7, q at least 0, no common divisor but 1, and p = 1 where q = 0.
+    /// Whether the bench may project along this direction: |p| and q at most 7, q at least 0, no
+    /// common divisor but 1, and p = 1 where q = 0.
     pub fn is_lawful(self) -> bool
         ensures { result ≡ lawful self }
     {
@@ -65,15 +67,15 @@ impl Direction {
         gcd(across, down) == 1 && self.is_level_right()
     }
 
-    // Whether this direction stands before another: p·q' > p'·q. That is an order of the lawful directions alone, so that
-    // it is no `PartialOrd`: (1, 1) and (2, 2) would be equal there.
+    /// Whether this direction stands before another: p·q' > p'·q. That is an order of the lawful
+    /// directions alone, so that it is no `PartialOrd`: (1, 1) and (2, 2) would be equal there.
     pub fn is_before(self, other: Direction) -> bool
         ensures { result ≡ before self other }
     {
         i64::from(other.p) * i64::from(self.q) < i64::from(self.p) * i64::from(other.q)
     }
 
-    // Whether this direction may stand after the last one, if there is one.
+    /// Whether this direction may stand after the last one, if there is one.
     pub fn follows(self, last: Option<Direction>) -> bool
         ensures { result ≡ follows last self }
     {

@@ -1,4 +1,4 @@
-// How a fault passes up to the bench whole.
+//! How the fault of a file passes up to the bench whole.
 ghost use Rattle.std.specs.Prelude.{◌≡◌};
 ghost use Rattle.mojette.specs.declared.fault.Fault.TheVariants.{NoFile};
 

@@ -1,4 +1,4 @@
-// What a fault tells.
+//! What a fault tells in numbers. `sentences` gives the same in words.
 ghost use Rattle.std.specs.Prelude.{◌≡◌, ◌++◌, codes, decimal, Some};
 ghost use Rattle.mojette.specs.Faults.{table_number, reason_number, refusal_of};
 
@@ -6,6 +6,7 @@ use crate::fault::{Fault, Reason, Refusal, Table};
 use std::fmt;
 
 impl Table {
+    /// The number by which refusals tell the table, 1 to 5.
     pub fn number(self) -> usize
         ensures { result ≡ table_number self }
     {
@@ -14,6 +15,7 @@ impl Table {
 }
 
 impl Reason {
+    /// The number by which refusals tell the reason, 0 to 4.
     pub fn number(self) -> usize
         ensures { result ≡ reason_number self }
     {
@@ -35,7 +37,7 @@ fn told(number: usize, first: usize, second: usize, third: usize) -> Refusal
 impl From<Fault> for Refusal {
     ghost from_gives = { λ fault refusal. refusal ≡ refusal_of fault };
 
-    // The number of the refusal, and what it tells.
+    /// The number of the refusal, and the values that the fault tells.
     fn from(fault: Fault) -> Refusal {
         match fault {
             Fault::Size => told(1, 0, 0, 0),
@@ -64,8 +66,10 @@ impl From<Fault> for Refusal {
     }
 }
 
+/// `refused` and the four numbers.
 impl fmt::Display for Refusal {
-    ghost output = { λ r. Some (codes "refused " ++ decimal r.number ++ codes " " ++ decimal r.first ++ codes " " ++ decimal r.second ++ codes " " ++ decimal r.third) };
+    ghost output = { λ r. Some (codes "refused " ++ decimal r.number ++ codes " " ++ decimal r.first
+        ++ codes " " ++ decimal r.second ++ codes " " ++ decimal r.third) };
 
     fn fmt<W: fmt::Write>(&self, f: &mut fmt::Formatter<W>) -> fmt::Result {
         let Refusal {

@@ -1,4 +1,4 @@
-// Sizes of tiles, with their pixels and bins.
+//! Sizes of tiles, with their pixels and bins.
 ghost use Rattle.std.specs.Prelude.{◌≡◌, ◌*◌, ◌≤◌, true, IfOk};
 ghost use Rattle.mojette.specs.Bins.{bins};
 ghost use Rattle.mojette.specs.Bounds.{most_bins};
@@ -11,7 +11,7 @@ use crate::fault::Fault;
 use crate::order::MOST_SIDE;
 use crate::size::Size;
 
-// Whether a tile may have so many columns, or rows.
+/// Whether a tile may have so many columns, or rows: 1 to 64.
 pub fn is_side(n: usize) -> bool
     ensures { result ≡ side_ok n }
 {
@@ -19,7 +19,7 @@ pub fn is_side(n: usize) -> bool
 }
 
 impl Size {
-    // The size of a tile, or why no tile has it.
+    /// The size of a tile of so many columns and rows. `Fault::Size` if no tile has them.
     pub fn of(columns: usize, rows: usize) -> Result<Size, Fault>
         ensures verdict { refused result ≡ sides_verdict columns rows }
         ensures value { IfOk result (λ size. (size.columns ≡ columns) × (size.rows ≡ rows)) }
@@ -31,14 +31,15 @@ impl Size {
         }
     }
 
-    // How many pixels a tile has.
+    /// How many pixels a tile has, which is at most 4,096.
     pub fn pixels(self) -> usize
         ensures { result ≡ self.columns * self.rows }
     {
         self.columns * self.rows
     }
 
-    // B, the number of bins of a direction.
+    /// B, the number of bins along a direction. The direction may be any two numbers; an unlawful
+    /// one may have more than `MOST_BINS`.
     pub fn bins(self, direction: Direction) -> usize
         ensures value { result ≡ bins self.columns self.rows direction }
         ensures few { lawful direction ≡ true → result ≤ most_bins }

@@ -1,9 +1,10 @@
-// The size of a tile. A file of its own, so that `specs/` can name the type.
+//! The size of a tile. A file of its own, so that `specs/` can name the type.
 ghost use Rattle.std.specs.Prelude.{◌≡◌, ◌≤◌, true};
 ghost use Rattle.mojette.specs.Bounds.{most_side};
 ghost use Rattle.mojette.specs.Meaning.{side_ok};
 
-// So many columns and rows as a tile may have. How long a table is beside it is asked by clauses, since tables are the callers'.
+/// So many columns and rows as a tile may have, each 1 to 64. How long a table is beside it is
+/// asked by clauses, since tables are the callers'.
 #[derive(Clone, Copy, Debug, PartialEq, Eq)]
 pub struct Size {
     pub columns: usize,
