@@ -1,3 +1,4 @@
+pub mod Leading
 pub mod Adding
 pub mod Calls
 pub mod Cells

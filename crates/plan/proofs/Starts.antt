@@ -9,3 +9,10 @@ start_beyond P Q [] zero l = refl
 start_beyond P Q [] (suc i) l = refl
 start_beyond P Q (e ∷ es) zero l = absurd (omega arith)
 start_beyond P Q (e ∷ es) (suc i) l = ap (λ n. bins P Q e.direction + n) (start_beyond P Q es i (omega arith))
+
+-- no place starts behind it
+pub start_most : (P Q : ℕ) (es : List Record) (i : ℕ) → start P Q es i ≤ all_bins P Q es
+start_most P Q [] zero = omega arith
+start_most P Q [] (suc i) = omega arith
+start_most P Q (e ∷ es) zero = omega arith
+start_most P Q (e ∷ es) (suc i) = let h = start_most P Q es i in omega arith

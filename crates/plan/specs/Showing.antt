@@ -1,10 +1,9 @@
 -- What `show_ghost` leaves and answers.
-use Rattle.std.specs.Prelude.{◌≡◌, false, cond, List, ◌++◌, length, take, drop, Ok, Err, Result, nat_lt}
+use Rattle.std.specs.Prelude.{cond, List, ◌++◌, length, take, drop, nat_lt}
 use Rattle.samples.specs.declared.kind.Kind.{Ghosts as Operations}
-use Rattle.mojette.specs.declared.fault.Fault.{Fault}
 use Rattle.mojette.specs.Faults.{Outcome, served, refuses}
 use Rattle.mojette.specs.Meaning.{Shape, pixels_of}
-use Rattle.mojette.specs.Refusals.{refusal}
+use Rattle.mojette.specs.Refusals.{short_table}
 use Rattle.katz.specs.Ghosts.{Ghost}
 use Rattle.katz.specs.Made.{ghost_tile}
 use Rattle.plan.specs.declared.criterion.Criterion.{Criterion}
@@ -25,15 +24,10 @@ ghosted K s picture = ghost_tile K s.P s.Q (whole_of s) ++ drop (pixels_of s) pi
 -- The criterion, and where it fails the ghost. Or the refusal, with the picture as it was: a picture too short.
 abbrev pub showing : {S : Type 0} → Operations S → Shape → List S → Shown S
 showing K s picture =
-    cond (nat_lt (length picture) (pixels_of s)) (shown (refuses (refusal 5 1 0 0)) picture)
+    cond (nat_lt (length picture) (pixels_of s)) (shown (refuses (short_table 1)) picture)
     (cond (criterion_of s).enough (shown (served (criterion_of s)) picture)
     (shown (served (criterion_of s)) (ghosted K s picture)))
 
 -- The first P·Q cells are a ghost: not zero, and vanishing in every bin of every whole place.
 abbrev pub HoldsGhost : {S : Type 0} → Operations S → Shape → List S → Type 0
 HoldsGhost K s picture = Ghost K s.P s.Q (whole_of s) (take (pixels_of s) picture)
-
--- A served call leaves a ghost where the criterion fails.
-abbrev pub LeavesGhost : {S : Type 0} → Operations S → Shape → Result Criterion Fault → List S → Type 0
-LeavesGhost K s (Ok c) picture = c.enough ≡ false → HoldsGhost K s picture
-LeavesGhost K s (Err e) picture = Unit {0}

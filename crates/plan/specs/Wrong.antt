@@ -5,7 +5,7 @@ use Rattle.mojette.specs.declared.direction.Record.{Record}
 use Rattle.mojette.specs.Bounds.{most_side, most_places, OneTo}
 use Rattle.mojette.specs.Directions.{lawful, before}
 use Rattle.mojette.specs.Meaning.{no_record, Shape}
-use Rattle.mojette.specs.Refusals.{Refusal, refusal}
+use Rattle.mojette.specs.Refusals.{Refusal, unlawful_size, unlawful_place_count, unlawful_direction, disordered_direction}
 
 -- the direction of place i
 abbrev pub direction_at : List Record → ℕ → Direction
@@ -39,7 +39,11 @@ Counted s = OneTo most_places (length s.records)
 
 -- What is told of a shape: when each refusal comes, and which place it names.
 pub record FirstWrong (s : Shape) (told : Option Refusal) : Type 0 where
-  pub size : (told ≡ Some (refusal 1 0 0 0)) ↔ (¬ (Sized s))
-  pub count : (told ≡ Some (refusal 2 0 0 0)) ↔ (Sized s × (¬ (Counted s)))
-  pub unlawful : (i : ℕ) → (told ≡ Some (refusal 3 i 0 0)) ↔ (Sized s × Counted s × FirstUnlawful s.records i)
-  pub disorder : (i : ℕ) → (told ≡ Some (refusal 4 i 0 0)) ↔ (Sized s × Counted s × FirstDisorder s.records i)
+  pub size : (told ≡ Some unlawful_size) ↔ (¬ (Sized s))
+  pub count : (told ≡ Some unlawful_place_count) ↔ (Sized s × (¬ (Counted s)))
+  pub unlawful :
+      (i : ℕ) → (told ≡ Some (unlawful_direction i))
+      ↔ (Sized s × Counted s × FirstUnlawful s.records i)
+  pub disorder :
+      (i : ℕ) → (told ≡ Some (disordered_direction i))
+      ↔ (Sized s × Counted s × FirstDisorder s.records i)

@@ -10,16 +10,20 @@ use crate::places::Place;
 use crate::plan::Plan;
 use samples::Kind;
 
-// C and R, the sums of |p| and of q over the whole places, and whether P ≤ C or Q ≤ R. C and R are told whatever the verdict.
+/// Katz's criterion of a plan (M. Katz, 1978), with the two sums that it compares, which are told whatever
+/// the verdict.
 #[derive(Clone, Copy)]
 pub struct Criterion {
+    /// C, the sum of |p| over the whole places.
     pub columns: usize,
+    /// R, the sum of q over the whole places.
     pub rows: usize,
+    /// Whether P ≤ C or Q ≤ R.
     pub enough: bool,
 }
 
 impl Place {
-    // Whether the projection is not lost.
+    /// Whether the projection is not lost.
     pub fn is_whole(self) -> bool
         ensures { result ≡ whole (record_of self) }
     {
@@ -56,7 +60,8 @@ impl Plan {
         }
     }
 
-    // By Katz's theorem it is not enough exactly when the whole places have a ghost.
+    /// C, R and Katz's criterion (M. Katz, 1978). By his theorem it fails exactly when the whole places have
+    /// a ghost: a tile that is not zero, though each of their sums is. Nothing is refused.
     pub fn criterion<K: Kind>(&self) -> Criterion
         ensures value { result ≡ criterion_of (shape self.now) }
         ensures katz { KatzHolds K.Kind (shape self.now) result.enough }

@@ -7,9 +7,13 @@ use crate::plan::Plan;
 use mojette::{MOST_PLACES, Size};
 
 impl Plan {
-    // One pixel, and the direction (0, 1) whole.
+    /// One pixel, and the direction (0, 1) whole: a plan for a call that fills one.
     pub fn fresh() -> Plan
-        ensures { shape result ≡ record { P = 1; Q = 1; records = record { direction = record { p = pos 0; q = pos 1 }; cause = 0 } ∷ [] } }
+        ensures { shape result ≡ record {
+          P = 1;
+          Q = 1;
+          records = record { direction = record { p = pos 0; q = pos 1 }; cause = 0 } ∷ [];
+        } }
     {
         // Number by number: `lay` would work out from a size what stands here.
         let place = Place {

@@ -1,5 +1,6 @@
 // The ghost of a plan, written once for every kind of sample.
-ghost use Rattle.std.specs.Prelude.{◌≡◌, ◌+◌, ◌-◌, ◌*◌, ◌<◌, ◌≤◌, true, false, length, drop, if◌then◌else◌};
+ghost use Rattle.std.specs.Prelude.{◌≡◌, ◌+◌, ◌-◌, ◌*◌, ◌<◌, ◌≤◌, ◌↔◌, true, false, length, drop, if◌then◌else◌};
+ghost use Rattle.std.specs.Prelude.{IsErrOf, IsOkUnless, IfOk, OnErr};
 ghost use Rattle.mojette.specs.Directions.{lawful};
 ghost use Rattle.mojette.specs.Faults.{outcome};
 ghost use Rattle.mojette.specs.Meaning.{pixels_of};
@@ -8,7 +9,7 @@ ghost use Rattle.plan.specs.Criteria.{whole_of, criterion_of};
 ghost use Rattle.plan.specs.Laid.{direction_of};
 ghost use Rattle.plan.specs.Pictures.{picture_of};
 ghost use Rattle.plan.specs.Shapes.{shape};
-ghost use Rattle.plan.specs.Showing.{shown, showing, ghosted, HoldsGhost, LeavesGhost};
+ghost use Rattle.plan.specs.Showing.{shown, showing, ghosted, HoldsGhost};
 
 use crate::clear::clear;
 use crate::criterion::Criterion;
@@ -23,15 +24,16 @@ fn write_spark<K: Kind>(size: Size, at: usize, picture: &mut [K])
     requires room { size.columns * size.rows ≤ length picture.old }
     requires inside { at < size.columns }
     ensures shows { picture_of K.Kind size.columns size.rows picture.new ≡ start_of K.Kind at }
-    ensures others { drop (size.columns * size.rows) picture.new ≡ drop (size.columns * size.rows) picture.old }
+    ensures others { let pixels = size.columns * size.rows in
+        drop pixels picture.new ≡ drop pixels picture.old }
 {
     let cells = &mut picture[..size.pixels()];
     clear(cells);
     cells[at] = K::spark_sample();
 }
 
-// The columns whose pixels take from a pixel inside the tile, from the first to before the last, and how many cells before them
-// that pixel stands.
+// The columns whose pixels take from a pixel inside the tile, from the first to before the last, and how many
+// cells before them that pixel stands.
 #[derive(Clone, Copy)]
 struct Span {
     first: usize,
@@ -53,7 +55,8 @@ impl Place {
         requires direction { lawful (direction_of self) ≡ true }
         ensures first { result.first ≡ (if self.leftward then 0 else self.slope) }
         ensures last { result.last ≡ (if self.leftward then size.columns - self.slope else size.columns) }
-        ensures back { result.back ≡ (if self.leftward then self.q * size.columns - self.slope else self.q * size.columns + self.slope) }
+        ensures back { let down = self.q * size.columns in
+            result.back ≡ (if self.leftward then down - self.slope else down + self.slope) }
     {
         let down = self.q * size.columns;
         if self.leftward {
@@ -72,14 +75,17 @@ impl Place {
     }
 }
 
-// One step of the ghost in place, from the last cell down: a pixel takes from an earlier cell, which still holds the old sample,
-// so that the loops count columns and rows. Pixels that take from outside the tile stay. (Size and place, as for `lay`.)
+// One step of the ghost in place, from the last cell down: a pixel takes from an earlier cell, which still
+// holds the old sample, so that the loops count columns and rows. Pixels that take from outside the tile
+// stay. (Size and place, as for `lay`.)
 fn take_off<K: Kind>(size: Size, place: Place, picture: &mut [K])
     requires room { size.columns * size.rows ≤ length picture.old }
     requires direction { lawful (direction_of place) ≡ true }
     requires narrow { place.slope < size.columns }
-    ensures shows { picture_of K.Kind size.columns size.rows picture.new ≡ step K.Kind size.columns size.rows (direction_of place) (picture_of K.Kind size.columns size.rows picture.old) }
-    ensures others { drop (size.columns * size.rows) picture.new ≡ drop (size.columns * size.rows) picture.old }
+    ensures shows { let pixels = picture_of K.Kind size.columns size.rows in
+        pixels picture.new ≡ step K.Kind size.columns size.rows (direction_of place) (pixels picture.old) }
+    ensures others { let pixels = size.columns * size.rows in
+        drop pixels picture.new ≡ drop pixels picture.old }
 {
     let q = place.q;
     let Span { first, last, back } = place.span(size);
@@ -121,10 +127,22 @@ impl Plan {
         }
     }
 
-    // Where the criterion fails, writes the ghost of the whole places into the first P·Q cells of the picture.
+    /// Tells Katz's criterion, and where it fails writes the ghost of the whole places into the first P·Q
+    /// cells of the picture. Pixel (k, l) lies in cell l·P + k. A picture with fewer cells is refused.
     pub fn show_ghost<K: Kind>(&self, picture: &mut [K]) -> Result<Criterion, Fault>
         ensures value { shown (outcome result) picture.new ≡ showing K.Kind (shape self.now) picture.old }
-        ensures unseen { LeavesGhost K.Kind (shape self.now) result picture.new }
+
+        // The same as a caller reads it: when it refuses, what it answers, and what the picture holds then.
+        ensures error { IsErrOf result (Fault.ShortTable Table.Picture)
+            ↔ (length picture.old < pixels_of (shape self.now)) }
+        ensures only { IsOkUnless result (Fault.ShortTable Table.Picture) }
+        ensures criterion { IfOk result (λ c. c ≡ criterion_of (shape self.now)) }
+        ensures unseen { IfOk result (λ c. c.enough ≡ false →
+            HoldsGhost K.Kind (shape self.now) picture.new) }
+        ensures enough { IfOk result (λ c. c.enough ≡ true → picture.new ≡ picture.old) }
+        ensures beyond { let pixels = pixels_of (shape self.now) in
+            drop pixels picture.new ≡ drop pixels picture.old }
+        ensures unchanged { OnErr result (picture.new ≡ picture.old) }
     {
         if picture.len() < self.pixels() {
             return Err(Fault::ShortTable(Table::Picture));

@@ -7,7 +7,8 @@ ghost use Rattle.plan.specs.Laid.{laid, direction_of, bin_number};
 use crate::places::Place;
 use mojette::{Record, Size};
 
-// The place of a record, from a position on. A place does not hold the size of its tile, which all places of a plan share: so functions take both.
+// The place of a record, from a position on. A place does not hold the size of its tile, which all places of
+// a plan share: so functions take both.
 pub(crate) fn lay(size: Size, entry: Record, start: usize) -> Place
     ensures { result ≡ laid size.columns size.rows entry start }
 {
@@ -32,7 +33,8 @@ pub(crate) fn cell_of(size: Size, k: usize, l: usize) -> usize
 }
 
 impl Place {
-    // The bin of the pixel in column k and row l; a projection asks for the first column of each row. (Size and place, as for `lay`.)
+    // The bin of the pixel in column k and row l; a projection asks for the first column of each row. (Size
+    // and place, as for `lay`.)
     pub(crate) fn bin_of(self, size: Size, k: usize, l: usize) -> usize
         requires pixel { (k < size.columns) × (l < size.rows) }
         requires steps { (self.q ≤ most_step) × (self.slope ≤ most_step) }

@@ -62,10 +62,12 @@ fn lay_out(size: Size, records: &[Record]) -> Plan
 }
 
 impl Plan {
-    // The plan of a shape, or why it is not lawful: which place is the first that is wrong, and how. Any two numbers may be asked for.
+    /// The plan of a shape, or why it is not lawful: its sizes, its number of places, or the first place that
+    /// is wrong, and how. Any two numbers and any records may be asked for.
     pub fn of(columns: usize, rows: usize, records: &[Record]) -> Result<Plan, Fault>
         ensures plan { Plans (record { P = columns; Q = rows; records = records.now }) result }
-        ensures first { FirstWrong (record { P = columns; Q = rows; records = records.now }) (refused result) }
+        ensures first { FirstWrong
+            (record { P = columns; Q = rows; records = records.now }) (refused result) }
     {
         let size = Size::of(columns, rows)?;
         if records.len() < 1 || records.len() > MOST_PLACES {
@@ -85,7 +87,8 @@ mod tests {
         Record::new(p, q, 0)
     }
 
-    // The refusal's number and first value, which the tests pin; 0 and T where there is a plan. Each file of tests asks its own call.
+    // The refusal's number and first value, which the tests pin; 0 and T where there is a plan. Each file of
+    // tests asks its own call.
     fn answer(columns: usize, rows: usize, records: &[Record]) -> (usize, usize) {
         match Plan::of(columns, rows, records) {
             Ok(plan) => (0, plan.total()),

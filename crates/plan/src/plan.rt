@@ -8,8 +8,10 @@ ghost use Rattle.plan.specs.Laid.{shape_from, records_of, Starts, Sizes};
 use crate::places::Place;
 use mojette::{MOST_PLACES, Size};
 
-// The size of a tile, and the places laid out one after another, of which there are `count`; `total` is T, the number of all
-// bins. It stands for a lawful shape. A plan is copied, as no vector is, so that the places are an array beside their count.
+/// The size of a tile, and its 1 to 16 places laid out one after another. It stands for a lawful shape, and
+/// only for one.
+// There are `count` places; `total` is T, the number of all bins. A plan is copied, as no vector is, so that
+// the places are an array beside their count.
 #[derive(Clone, Copy)]
 pub struct Plan {
     pub(crate) size: Size,

@@ -1,13 +1,13 @@
 // The Mojette projection of a picture along one direction, written once for every kind of sample.
-ghost use Rattle.std.specs.Prelude.{◌≡◌, ◌*◌, ◌≤◌, true, ◌++◌, length, drop, IfOk};
+ghost use Rattle.std.specs.Prelude.{◌≡◌, ℕ, ◌*◌, ◌<◌, ◌≤◌, true, ◌++◌, length, drop, slice_get, IfOk, OnOk, OnErr};
 ghost use Rattle.mojette.specs.Bins.{bins};
 ghost use Rattle.mojette.specs.Bounds.{most_step, most_bins};
 ghost use Rattle.mojette.specs.Directions.{lawful};
-ghost use Rattle.mojette.specs.Faults.{outcome};
+ghost use Rattle.mojette.specs.Faults.{outcome, refused};
 ghost use Rattle.mojette.specs.TenBits.{TenBitsNeverWrap};
-ghost use Rattle.mojette.specs.Transform.{projection};
+ghost use Rattle.mojette.specs.Transform.{bin_sum, projection};
 ghost use Rattle.plan.specs.Laid.{direction_of};
-ghost use Rattle.plan.specs.Projecting.{projected, projecting};
+ghost use Rattle.plan.specs.Projecting.{projected, projecting, project_refusal};
 ghost use Rattle.plan.specs.Sums.{SumUpTo};
 
 use crate::clear::clear;
@@ -16,15 +16,19 @@ use crate::places::Place;
 use mojette::{Direction, Fault, Record, Size, Table};
 use samples::Kind;
 
-// Adds each sample of the picture to the sum of its bin, in the order of the cells. The bins of a row come q apart, the first column's last, so that
-// one number steps down them. Q is q once more, as a constant, so that the loops are compiled for each q alone. (Size and place, as for `lay`.)
+// Adds each sample of the picture to the sum of its bin, in the order of the cells. The bins of a row come q
+// apart, the first column's last, so that one number steps down them. Q is q once more, as a constant, so
+// that the loops are compiled for each q alone. (Size and place, as for `lay`.)
 fn add_up<const Q: usize, K: Kind>(size: Size, place: Place, picture: &[K], sums: &mut [K])
     requires step { place.q ≡ Q }
     requires small { (place.slope ≤ most_step) × (place.q ≤ most_step) }
-    requires room { (size.columns * size.rows ≤ length picture.now) × (bins size.columns size.rows (direction_of place) ≤ length sums.old) }
+    requires room { (size.columns * size.rows ≤ length picture.now)
+        × (bins size.columns size.rows (direction_of place) ≤ length sums.old) }
     requires clear { SumUpTo K.Kind size.columns size.rows (direction_of place) picture.now 0 sums.old }
-    ensures sums { SumUpTo K.Kind size.columns size.rows (direction_of place) picture.now (size.columns * size.rows) sums.new }
-    ensures others { drop (bins size.columns size.rows (direction_of place)) sums.new ≡ drop (bins size.columns size.rows (direction_of place)) sums.old }
+    ensures sums { let pixels = size.columns * size.rows in
+        SumUpTo K.Kind size.columns size.rows (direction_of place) picture.now pixels sums.new }
+    ensures others { let count = bins size.columns size.rows (direction_of place) in
+        drop count sums.new ≡ drop count sums.old }
 {
     for l in 0..size.rows {
         let mut bin = place.bin_of(size, 0, l) + Q;
@@ -39,10 +43,13 @@ fn add_up<const Q: usize, K: Kind>(size: Size, place: Place, picture: &[K], sums
 // The same with the loops of the place's q.
 fn add_up_by_step<K: Kind>(size: Size, place: Place, picture: &[K], sums: &mut [K])
     requires small { (place.slope ≤ most_step) × (place.q ≤ most_step) }
-    requires room { (size.columns * size.rows ≤ length picture.now) × (bins size.columns size.rows (direction_of place) ≤ length sums.old) }
+    requires room { (size.columns * size.rows ≤ length picture.now)
+        × (bins size.columns size.rows (direction_of place) ≤ length sums.old) }
     requires clear { SumUpTo K.Kind size.columns size.rows (direction_of place) picture.now 0 sums.old }
-    ensures sums { SumUpTo K.Kind size.columns size.rows (direction_of place) picture.now (size.columns * size.rows) sums.new }
-    ensures others { drop (bins size.columns size.rows (direction_of place)) sums.new ≡ drop (bins size.columns size.rows (direction_of place)) sums.old }
+    ensures sums { let pixels = size.columns * size.rows in
+        SumUpTo K.Kind size.columns size.rows (direction_of place) picture.now pixels sums.new }
+    ensures others { let count = bins size.columns size.rows (direction_of place) in
+        drop count sums.new ≡ drop count sums.old }
 {
     match place.q {
         0 => add_up::<0, K>(size, place, picture, sums),
@@ -59,8 +66,10 @@ fn add_up_by_step<K: Kind>(size: Size, place: Place, picture: &[K], sums: &mut [
 // Writes the sums of a lawful direction.
 fn write_sums<K: Kind>(size: Size, direction: Direction, picture: &[K], sums: &mut [K])
     requires direction { lawful direction ≡ true }
-    requires room { (size.columns * size.rows ≤ length picture.now) × (bins size.columns size.rows direction ≤ length sums.old) }
-    ensures { sums.new ≡ projection K.Kind size.columns size.rows picture.now direction ++ drop (bins size.columns size.rows direction) sums.old }
+    requires room { (size.columns * size.rows ≤ length picture.now)
+        × (bins size.columns size.rows direction ≤ length sums.old) }
+    ensures { sums.new ≡ projection K.Kind size.columns size.rows picture.now direction
+        ++ drop (bins size.columns size.rows direction) sums.old }
 {
     let entry = Record {
         direction,
@@ -71,8 +80,10 @@ fn write_sums<K: Kind>(size: Size, direction: Direction, picture: &[K], sums: &m
     add_up_by_step(size, place, picture, sums);
 }
 
-// Writes the sums of one direction, and answers how many bins it has. Any two numbers and any direction may be asked for. Of sum words the sums are
-// modulo 65,536; those of ten bits never come so far.
+/// The Dirac Mojette transform (Guédon and Normand) of a picture along one direction: writes the sum of each
+/// bin, and answers how many bins there are. Pixel (k, l) lies in cell l·P + k of the picture, whose further
+/// cells are not read. Any two numbers and any direction may be asked for. Of sum words the sums are modulo
+/// 65,536; those of ten bits never come so far.
 #[tactic(auto, using(mojette::proofs::TenBits::ten_bits_never_wrap))]
 pub fn project<K: Kind>(
     columns: usize,
@@ -81,8 +92,20 @@ pub fn project<K: Kind>(
     picture: &[K],
     sums: &mut [K],
 ) -> Result<usize, Fault>
-    ensures value { projected (outcome result) sums.new ≡ projecting K.Kind columns rows direction picture.now sums.old }
-    ensures few { IfOk result (λ bins. bins ≤ most_bins) }
+    ensures value { projected (outcome result) sums.new
+        ≡ projecting K.Kind columns rows direction picture.now sums.old }
+
+    // The same as a caller reads it: the first refusal, how many sums there are, and what they are.
+    ensures error { refused result
+        ≡ project_refusal columns rows direction (length picture.now) (length sums.old) }
+    ensures bins { IfOk result (λ count. count ≡ bins columns rows direction) }
+    ensures sums { OnOk result ((b : ℕ) → b < bins columns rows direction →
+        slice_get sums.new b ≡ Some (bin_sum K.Kind columns rows picture.now direction b)) }
+    ensures beyond { let count = bins columns rows direction in
+        drop count sums.new ≡ drop count sums.old }
+    ensures unchanged { OnErr result (sums.new ≡ sums.old) }
+
+    ensures few { IfOk result (λ count. count ≤ most_bins) }
     ensures ten_bits { TenBitsNeverWrap }
 {
     let size = Size::of(columns, rows)?;
@@ -106,8 +129,8 @@ mod tests {
     use mojette::Refusal;
     use samples::SumWord;
 
-    // The refusal's number and first value, which the tests pin; 0 and the bins where the call is served. Each file of tests asks its own
-    // call.
+    // The refusal's number and first value, which the tests pin; 0 and the bins where the call is served.
+    // Each file of tests asks its own call.
     fn answer(
         columns: usize,
         rows: usize,

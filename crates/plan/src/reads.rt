@@ -10,7 +10,7 @@ use crate::plan::Plan;
 use mojette::Size;
 
 impl Plan {
-    // The places, in order.
+    /// The places, in order, lost ones too.
     pub fn places(&self) -> &[Place]
         ensures value { result.now ≡ places_of self.now }
         ensures few_bins { All (λ place. place.bins ≤ most_bins) result.now }
@@ -18,6 +18,7 @@ impl Plan {
         &self.places[0..self.count]
     }
 
+    /// P and Q.
     pub fn size(&self) -> Size
         ensures columns { result.columns ≡ (shape self.now).P }
         ensures rows { result.rows ≡ (shape self.now).Q }
@@ -25,28 +26,31 @@ impl Plan {
         self.size
     }
 
+    /// P, the number of columns.
     pub fn columns(&self) -> usize
         ensures { result ≡ (shape self.now).P }
     {
         self.size.columns
     }
 
+    /// Q, the number of rows.
     pub fn rows(&self) -> usize
         ensures { result ≡ (shape self.now).Q }
     {
         self.size.rows
     }
 
-    // N, the number of places.
+    /// N, the number of places.
     pub fn count(&self) -> usize
         ensures { result ≡ length (shape self.now).records }
     {
         self.places().len()
     }
 
-    // The position of bin 0 of place i; T, where the last place ends, where there is no place i.
+    /// The position of bin 0 of place i; T, where the last place ends, if there is no place i.
     pub fn start(&self, i: usize) -> usize
-        ensures { result ≡ start (shape self.now).P (shape self.now).Q (shape self.now).records i }
+        ensures value { result ≡ start (shape self.now).P (shape self.now).Q (shape self.now).records i }
+        ensures few { result ≤ most_positions }
     {
         match self.places().get(i) {
             Some(place) => place.start,
@@ -54,14 +58,14 @@ impl Plan {
         }
     }
 
-    // How many pixels the tile has.
+    /// P·Q, how many pixels the tile has.
     pub fn pixels(&self) -> usize
         ensures { result ≡ pixels_of (shape self.now) }
     {
         self.size.pixels()
     }
 
-    // T, the number of all bins.
+    /// T, the number of all bins, of lost places too.
     pub fn total(&self) -> usize
         ensures value { result ≡ bins_of (shape self.now) }
         ensures some { 1 ≤ result }

@@ -6,7 +6,7 @@ use Rattle.mojette.specs.Bins.{bins, whole}
 use Rattle.mojette.specs.Faults.{Outcome, served, refuses}
 use Rattle.mojette.specs.Meaning.{Place, Meaning}
 pub use Rattle.mojette.specs.Meaning.{no_record, no_place}
-use Rattle.mojette.specs.Refusals.{Refusal, refusal}
+use Rattle.mojette.specs.Refusals.{Refusal, no_such_place, lost_place, no_such_bin}
 use Rattle.source.specs.declared.types.Sizes.{Sizes}
 
 abbrev pub place_at : {S : Type 0} → Meaning S → ℕ → Place S
@@ -19,15 +19,15 @@ abbrev pub asked_sizes : {S : Type 0} → Meaning S → Sizes
 asked_sizes m = record { columns = m.P; rows = m.Q; places = length m.places }
 
 abbrev pub asked_place : {S : Type 0} → Meaning S → ℕ → Outcome Record
-asked_place m i = cond (nat_lt i (length m.places)) (served (place_at m i).entry) (refuses (refusal 16 0 0 0))
+asked_place m i = cond (nat_lt i (length m.places)) (served (place_at m i).entry) (refuses no_such_place)
 
 abbrev pub asked_bin : {S : Type 0} → Operations S → Meaning S → ℕ → ℕ → Outcome S
 asked_bin K m i b =
     cond (nat_lt i (length m.places))
     (cond (whole (place_at m i).entry)
-    (cond (nat_lt b (bins_at m i)) (served (slice_index_or (place_at m i).sums b K.zero)) (refuses (refusal 18 0 0 0)))
-    (refuses (refusal 17 (place_at m i).entry.cause 0 0)))
-    (refuses (refusal 16 0 0 0))
+    (cond (nat_lt b (bins_at m i)) (served (slice_index_or (place_at m i).sums b K.zero)) (refuses no_such_bin))
+    (refuses (lost_place (place_at m i).entry.cause)))
+    (refuses no_such_place)
 
 -- an answer that is given only where a check finds nothing to refuse
 abbrev pub checked : {A : Type 0} → Option Refusal → Outcome A → Outcome A

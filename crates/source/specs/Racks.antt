@@ -5,7 +5,7 @@ use Rattle.mojette.specs.declared.fault.Fault.{Fault}
 use Rattle.mojette.specs.Bins.{bins, whole, all_bins}
 use Rattle.mojette.specs.Faults.{Outcome, served, refuses, refusal_of}
 use Rattle.mojette.specs.Meaning.{Place, Meaning, verdict}
-use Rattle.mojette.specs.Refusals.{refusal}
+use Rattle.mojette.specs.Refusals.{no_such_place, wrong_run_length}
 use Rattle.plan.specs.Shapes.{shape}
 use Rattle.source.specs.declared.rack.Rack.{Rack}
 use Rattle.source.specs.Questions.{no_record, checked}
@@ -28,13 +28,13 @@ meaning_of x = rack_meaning (shape x.plan).P (shape x.plan).Q x.records.now x.ru
 
 -- the record of place i
 abbrev pub record_at : List Record → ℕ → Outcome Record
-record_at es i = cond (nat_lt i (length es)) (served (slice_index_or es i no_record)) (refuses (refusal 16 0 0 0))
+record_at es i = cond (nat_lt i (length es)) (served (slice_index_or es i no_record)) (refuses no_such_place)
 
 -- the meaning of the rack that is made, or the first refusal: of the shape, then a run that is not T long
 abbrev pub racking : {S : Type 0} → ℕ → ℕ → List Record → List S → Outcome (Meaning S)
 racking P Q es run =
     checked (verdict (record { P = P; Q = Q; records = es }))
-    (cond (length run == all_bins P Q es) (served (rack_meaning P Q es run)) (refuses (refusal 19 (all_bins P Q es) 0 0)))
+    (cond (length run == all_bins P Q es) (served (rack_meaning P Q es run)) (refuses (wrong_run_length (all_bins P Q es))))
 
 abbrev pub made : {S : Type 0} → Result (Rack S) Fault → Outcome (Meaning S)
 made (Ok x) = served (meaning_of x)

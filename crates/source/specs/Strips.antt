@@ -1,5 +1,5 @@
 -- What a strip writes and answers.
-use Rattle.std.specs.Prelude.{ℕ, ◌*◌, ◌/◌, cond, List, ◌++◌, map, length, drop, count_by, ◌==◌, nat_lt, slice_index_or}
+use Rattle.std.specs.Prelude.{ℕ, ◌*◌, ◌/◌, cond, List, ◌++◌, map, length, drop, count_by, Some, None, Option, ◌==◌, nat_lt, slice_index_or}
 use Rattle.std.specs.List.{range_with_len}
 use Rattle.samples.specs.declared.words.SumWord.{SumWord}
 use Rattle.samples.specs.Words.{sum_zero}
@@ -7,7 +7,7 @@ use Rattle.mojette.specs.declared.direction.Direction.{Direction}
 use Rattle.mojette.specs.Bins.{in_bin, whole}
 use Rattle.mojette.specs.Faults.{Outcome, served, refuses}
 use Rattle.mojette.specs.Meaning.{Meaning, shape_of, verdict}
-use Rattle.mojette.specs.Refusals.{refusal}
+use Rattle.mojette.specs.Refusals.{Refusal, no_such_place, lost_place, short_output}
 use Rattle.source.specs.Questions.{place_at, bins_at, checked}
 
 -- how many pixels bin b has
@@ -28,9 +28,9 @@ strip_answer m i room =
     checked (verdict (shape_of m))
     (cond (nat_lt i (length m.places))
     (cond (whole (place_at m i).entry)
-    (cond (nat_lt room (bins_at m i)) (refuses (refusal 21 (bins_at m i) 0 0)) (served (bins_at m i)))
-    (refuses (refusal 17 (place_at m i).entry.cause 0 0)))
-    (refuses (refusal 16 0 0 0)))
+    (cond (nat_lt room (bins_at m i)) (refuses (short_output (bins_at m i))) (served (bins_at m i)))
+    (refuses (lost_place (place_at m i).entry.cause)))
+    (refuses no_such_place))
 
 -- the answer of a call and the cells that it leaves
 pub record Stripped : Type 0 where
@@ -47,3 +47,18 @@ strip_leaves m i cells (refuses r) = stripped (refuses r) cells
 
 abbrev pub stripping : Meaning SumWord → ℕ → List ℕ → Stripped
 stripping m i cells = strip_leaves m i cells (strip_answer m i (length cells))
+
+-- the first of two refusals, if there is one
+abbrev pub first_refusal : Option Refusal → Option Refusal → Option Refusal
+first_refusal None later = later
+first_refusal (Some r) later = Some r
+
+-- The first refusal, none where the call is served: of the shape, no such place, a lost place, too few cells.
+abbrev pub strip_refusal : Meaning SumWord → ℕ → ℕ → Option Refusal
+strip_refusal m i room =
+    first_refusal (verdict (shape_of m))
+    (cond (nat_lt i (length m.places))
+    (cond (whole (place_at m i).entry)
+    (cond (nat_lt room (bins_at m i)) (Some (short_output (bins_at m i))) None)
+    (Some (lost_place (place_at m i).entry.cause)))
+    (Some no_such_place))

@@ -6,7 +6,8 @@ use crate::source::Source;
 use mojette::{Fault, MOST_PLACES, Record, Size};
 use plan::Plan;
 
-// The plan of a source, or why the source is not lawful.
+/// The plan of a source, or why the source is not lawful. It is asked for its sizes, then for its places, and
+/// for no sum.
 pub fn plan_of<S: Source>(source: &S) -> Result<Plan, Fault>
     ensures { Plans (shape_of (S.meaning source.now)) result }
 {

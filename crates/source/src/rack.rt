@@ -6,7 +6,9 @@ ghost use Rattle.plan.specs.Shapes.{shape};
 use mojette::Record;
 use plan::Plan;
 
-// One lent run of samples in order of position, beside the lent records of its places. The plan is laid out of the records.
+/// A source that is lent one run of samples in order of position, beside the records of its places. The run
+/// has cells for lost places too, which nobody reads.
+// The plan is laid out of the records.
 #[derive(Drop)]
 pub struct Rack<'a, K> {
     pub(crate) plan: Plan,

@@ -14,7 +14,8 @@ use plan::Plan;
 use samples::Kind;
 
 impl<'a, K: Kind> Rack<'a, K> {
-    // A rack of a lawful shape, with a run of exactly T samples. Any two numbers may be asked for.
+    /// A rack of a lawful shape, with a run of exactly T samples. Any two numbers may be asked for. Nothing
+    /// is copied.
     pub fn new(
         columns: usize,
         rows: usize,
@@ -38,8 +39,8 @@ fn place_of(records: &[Record], i: usize) -> Result<Record, Fault>
     records.get(i).copied().ok_or(Fault::NoPlace)
 }
 
-// Bin b of place i, in the run of all samples. (The rack's methods pass its slices on to functions, one of the forms that docs/DECISIONS.md
-// names.)
+// Bin b of place i, in the run of all samples. (The rack's methods pass its slices on to functions, one of
+// the forms that docs/DECISIONS.md names.)
 fn bin_of<K: Kind>(
     plan: &Plan,
     records: &[Record],
@@ -49,7 +50,8 @@ fn bin_of<K: Kind>(
 ) -> Result<K, Fault>
     requires same { (shape plan.now).records ≡ records.now }
     requires full { length run.now ≡ bins_of (shape plan.now) }
-    ensures { outcome result ≡ asked_bin K.Kind (rack_meaning (shape plan.now).P (shape plan.now).Q records.now run.now) i b }
+    ensures { let s = shape plan.now in
+        outcome result ≡ asked_bin K.Kind (rack_meaning s.P s.Q records.now run.now) i b }
 {
     let record = place_of(records, i)?;
     // The test that the strip makes too: a function of it would be no plainer.

@@ -1,8 +1,10 @@
-use Rattle.std.proofs.Common.{◌≡◌, length, take, sym, ap, ◌∙◌, arith}
+use Rattle.std.proofs.Common.{◌≡◌, ◌<◌, ◌++◌, length, take, drop, sym, ap, ◌∙◌, subst, arith}
 use Rattle.std.proofs.lemmas.List.{get_or-replicate, length-take-le}
 use Rattle.samples.specs.declared.words.SumWord.{SumWord}
 use Rattle.samples.specs.Words.{sum_zero}
 use Rattle.mojette.specs.Bounds.{most_pixels}
+use Rattle.plan.proofs.Leading.{leading}
+use Rattle.source.specs.Strips.{mean_at}
 use Rattle.source.proofs.Stripping.{known, direction_known, pixels_few, bins_few, bins_known}
 use Rattle.source.proofs.strip.strip.Goals as goal
 
@@ -37,3 +39,18 @@ write_means-requires-clause-bins g c =
     let counts = c.count_pixels-bins.new.counts in
     let cut : length (take bins counts) ≡ bins = length-take-le bins counts (omega (arith, bins_few h, n, c.count_pixels-bins.auto.counts)) in
     (cut ∙ bins_known h bins n, length-take-le bins c.args.out.now c.if-out-bins.false ∙ sym cut)
+
+pub returns-clause-means : goal.returns-clause-means
+returns-clause-means g c =
+    let m = g.S.Source.meaning c.args.source.now in
+    let h = known m c.args.place c.size.result.columns c.size.result.rows c.in_ok-record.record c.in_ok-plan.plan
+    c.in_ok-plan.ensures c.size.ensures.columns c.size.ensures.rows c.in_ok-record.ensures in
+    let n = c.count_pixels-bins.ensures.bins in
+    let bins = c.count_pixels-bins.result in
+    let counts = c.count_pixels-bins.new.counts in
+    let rest = drop bins c.args.out.now in
+    let cut : length (take bins counts) ≡ bins = length-take-le bins counts (omega (arith, bins_few h, n, c.count_pixels-bins.auto.counts)) in
+    let long = cut ∙ bins_known h bins n in
+    λ b inside.
+    leading (mean_at m c.args.place) (length (take bins counts)) rest (c.write_means.new.out ++ rest) (ap (λ xs. xs ++ rest) c.write_means.ensures)
+    b (subst (λ k. b < k) (sym long) inside)
