@@ -1,4 +1,5 @@
-// Notes of the missing pixels of bins: so the last one of a bin is known without a search.
+// How it is kept which pixels of the bins are missing: the trait `Tally`, the caller's counts, and notes, which tell the last
+// missing pixel of a bin without a search.
 #![tactic(auto)]
 
 pub mod cells;

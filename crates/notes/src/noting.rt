@@ -1,4 +1,4 @@
-// The note table of a plan: of each bin the note of all its pixels, which are missing at first.
+// The notes of a plan at the start, when every pixel is missing.
 ghost use Rattle.std.specs.Prelude.{◌≡◌, ℕ, ◌<◌, ◌≤◌, true, length, slice_index_or};
 ghost use Rattle.mojette.specs.Bounds.{most_step};
 ghost use Rattle.mojette.specs.Bins.{bins};
@@ -45,10 +45,11 @@ fn note_place(size: Size, place: Place, tile: &[Note], notes: &mut [Note])
     requires direction { lawful (direction_of place) ≡ true }
     requires tile { Numbered tile.now }
     requires room { length notes.old ≡ bins size.columns size.rows (direction_of place) }
-    ensures { (b : ℕ) → b < length notes.old → slice_index_or notes.new b note_zero ≡ note_of_place size.columns size.rows place b }
+    ensures { (b : ℕ) → b < length notes.old →
+        slice_index_or notes.new b note_zero ≡ note_of_place size.columns size.rows place b }
 {
     if place.is_whole() {
-        // It can't refuse, nor is there more room than bins.
+        // It is served: the direction is lawful, and the notes are as many as its bins.
         let _bins = project(size.columns, size.rows, direction_of(place), tile, notes);
     } else {
         notes.fill(Note { value: 0 });

@@ -1,10 +1,12 @@
 // Both ways to keep the missing pixels: the caller's counts, which may hold anything, and notes, which tell the last pixel of a bin.
-ghost use Rattle.std.specs.Prelude.{◌≡◌, ℕ, ◌≤◌, refl, List, length};
+ghost use Rattle.std.specs.Prelude.{◌≡◌, ℕ, ◌≤◌, refl, List, length, replicate};
+ghost use Rattle.mojette.specs.Bounds.{most_positions};
 ghost use Rattle.mojette.specs.Meaning.{bins_of};
 ghost use Rattle.plan.specs.Shapes.{shape};
 ghost use Rattle.notes.specs.Missing.{by_marks};
 ghost use Rattle.notes.specs.Notes.{Noted, counts_told};
 ghost use Rattle.notes.specs.Telling.{notes_in, noted_alike, told_long};
+ghost use Rattle.notes.specs.Words.{note_zero};
 ghost use Rattle.walk.specs.Counts.{FewPixels};
 
 use crate::note::Note;
@@ -88,8 +90,10 @@ impl Tally for Notes {
 }
 
 impl Notes {
-    // Notes of no bins yet.
-    pub fn fresh() -> Notes {
+    // Notes of no missing pixels yet.
+    pub fn fresh() -> Notes
+        ensures { notes_in result ≡ replicate most_positions note_zero }
+    {
         Notes {
             notes: [Note { value: 0 }; MOST_POSITIONS],
         }
@@ -98,7 +102,8 @@ impl Notes {
     // Writes the counts that the notes tell.
     pub fn write_counts(&self, plan: &Plan, counts: &mut [u8])
         requires room { bins_of (shape plan.now) ≤ length counts.old }
-        requires noted { (marks : List ℕ) × Noted (shape plan.now) (by_marks (shape plan.now) marks) (notes_in self.now) }
+        requires noted { let s = shape plan.now in
+            (marks : List ℕ) × Noted s (by_marks s marks) (notes_in self.now) }
         ensures counts { counts.new ≡ counts_told (shape plan.now) (notes_in self.now) counts.old }
         ensures few { FewPixels (shape plan.now) counts.new }
     {

@@ -9,23 +9,27 @@ ghost use Rattle.notes.specs.Missing.{Missing, Alike, all_missing, by_marks, fou
 use plan::Plan;
 use walk::Pixel;
 
-// What is kept of the missing pixels of the bins. All peeling is written over one, and over a kind of sample.
+// What is kept of the missing pixels of the bins. All peeling is written over one of these and a kind of sample.
 pub trait Tally {
     // The counts that it stands for, beside a lent table of counts.
     ghost counts_by: { Shape → Self → List ℕ → List ℕ };
 
-    // It tells the truth where these pixels are missing.
+    // What is kept is true where just these pixels are missing.
     ghost knows: { Shape → Missing → Self → Type 0 };
 
-    // It cannot tell what is alike apart.
-    ghost alike: { (s : Shape) (m m' : Missing) (x : Self) → Alike s m m' → knows s m x → knows s m' x };
+    // Only the bins and pixels of the tile count.
+    ghost alike: { (s : Shape) (m m' : Missing) (x : Self) →
+        Alike s m m' → knows s m x → knows s m' x };
 
-    ghost as_long: { (s : Shape) (x : Self) (counts : List ℕ) → length (counts_by s x counts) ≡ length counts };
+    // It stands for as many counts as the table has.
+    ghost as_long: { (s : Shape) (x : Self) (counts : List ℕ) →
+        length (counts_by s x counts) ≡ length counts };
 
     // All pixels are missing.
     fn set_up(&mut self, plan: &Plan, counts: &mut [u8])
         requires { bins_of (shape plan.now) ≤ length counts.old }
-        ensures counts { counts_by (shape plan.now) self.new counts.new ≡ counted (shape plan.now) counts.old }
+        ensures counts { let s = shape plan.now in
+            counts_by s self.new counts.new ≡ counted s counts.old }
         ensures knows { knows (shape plan.now) (all_missing (shape plan.now)) self.new };
 
     // Whether the count of the bin at a position is 1.
@@ -47,7 +51,9 @@ pub trait Tally {
         requires cell { cell < pixels_of (shape plan.now) }
         requires room { bins_of (shape plan.now) ≤ length counts.old }
         requires knows { (m : Missing) × knows (shape plan.now) m self.old × (m at cell ≡ true) }
-        ensures counts { counts_by (shape plan.now) self.new counts.new ≡ one_less at (counts_by (shape plan.now) self.old counts.old) }
+        ensures counts { let s = shape plan.now in
+            counts_by s self.new counts.new ≡ one_less at (counts_by s self.old counts.old) }
         ensures one { result ≡ (slice_index (counts_by (shape plan.now) self.old counts.old) at - 1 == 1) }
-        ensures knows { (m : Missing) → knows (shape plan.now) m self.old → m at cell ≡ true → knows (shape plan.now) (found_in at cell m) self.new };
+        ensures knows { let s = shape plan.now in
+            (m : Missing) → knows s m self.old → m at cell ≡ true → knows s (found_in at cell m) self.new };
 }

@@ -3,7 +3,7 @@ use Rattle.std.specs.Prelude.{◌≡◌, ℕ, ◌+◌, ◌*◌, ◌<◌, ◌≤�
 use Rattle.mojette.specs.Bins.{bins, in_bin, whole}
 use Rattle.mojette.specs.Bounds.{most_side}
 use Rattle.mojette.specs.Meaning.{Shape, pixels_of, bins_of}
-use Rattle.mojette.specs.Refusals.{Refusal, refusal}
+use Rattle.mojette.specs.Refusals.{Refusal, short_table}
 use Rattle.peeling.specs.Counting.{number}
 use Rattle.peeling.specs.Steps.{filled}
 use Rattle.law.specs.Positions.{incidence}
@@ -21,7 +21,7 @@ counted s counts = filled (bins_of s) (λ x. number (pixels_of s) (λ c. (incide
 
 -- the refusal, if the counts are too short, and the counts afterwards
 abbrev pub counting_refused : Shape → List ℕ → Option Refusal
-counting_refused s counts = cond (too_short s counts) (Some (refusal 5 4 0 0)) None
+counting_refused s counts = cond (too_short s counts) (Some (short_table 4)) None
 
 abbrev pub counts_after : Shape → List ℕ → List ℕ
 counts_after s counts = cond (too_short s counts) counts (counted s counts)

@@ -34,7 +34,8 @@ fn count_slanted(size: Size, place: Place, bins: &mut [u8])
     requires line { OnTile size.columns size.rows place.q place.slope 0 }
     requires place { whole (record_of place) ≡ true }
     requires slanted { (1 ≤ place.q) × (1 ≤ place.slope) }
-    ensures { (b : ℕ) → b < length bins.old → slice_index bins.new b ≡ pixels_of_bin size.columns size.rows place b }
+    ensures { (b : ℕ) → b < length bins.old →
+        slice_index bins.new b ≡ pixels_of_bin size.columns size.rows place b }
 {
     let width = size.columns * place.q;
     let height = size.rows * place.slope;
@@ -62,7 +63,8 @@ fn count_slanted(size: Size, place: Place, bins: &mut [u8])
 // Counts the pixels of the bins of one place. Rows and columns are at most 64, and fit a byte. (Size and place, which a plan holds apart.)
 fn count_place(size: Size, place: Place, counts: &mut [u8])
     requires { LaidWithin size.columns size.rows place (length counts.old) }
-    ensures { counts.new ≡ written place.start place.bins (pixels_of_bin size.columns size.rows place) counts.old }
+    ensures { counts.new
+        ≡ written place.start place.bins (pixels_of_bin size.columns size.rows place) counts.old }
 {
     let bins = &mut counts[place.start..place.start + place.bins];
     if !place.is_whole() {
