@@ -1,5 +1,5 @@
 -- Sealing and peeling in one call leads from a life of the tile to a later one.
-use Rattle.std.proofs.Common.{◌≡◌, ℕ, ◌<◌, ◌≤◌, ◌∷◌, length, Ok, Err, sym, refl, ap, ◌∙◌, subst, ⊎_elim, arith}
+use Rattle.std.proofs.Common.{◌≡◌, ◌<◌, ◌≤◌, length, Ok, Err, sym, refl, ap, ◌∙◌, ⊎_elim, arith}
 use Rattle.std.proofs.lemmas.Bool.{cases_lt}
 use Rattle.samples.specs.declared.kind.Kind.{Ghosts as Operations}
 use Rattle.mojette.specs.Meaning.{Meaning, shape_of}
@@ -12,18 +12,17 @@ use Rattle.law.proofs.Lives.{kept}
 use Rattle.law.proofs.Outcome.{law}
 use Rattle.tile.specs.declared.states.Loading.{Loading}
 use Rattle.tile.specs.declared.states.Peeling.{Peeling}
-use Rattle.tile.specs.Calls.{SealsAndPeels}
 use Rattle.tile.specs.Outcomes.{seal_outcome}
 use Rattle.tile.proofs.Living.{calls_live}
 use Rattle.runs.specs.Alone.{Rests, PeelsToRest}
 use Rattle.runs.specs.Rebuilding.{Ready}
-use Rattle.runs.proofs.Endings.{only_seals, at_rest}
+use Rattle.runs.proofs.Endings.{SealsAndPeels, only_seals, at_rest}
 
 -- Where sealing and peeling is served, so is the seal.
 also_seals : {S : Type 0} (K : Operations S) (plan : Plan) (x : Loading) (t t' : Tables S) (y : Peeling) → SealsAndPeels K plan x t (Ok y) t' →
-    (seal K (shape plan) x.loaded t).answer ≡ done
+    (seal K (shape plan) x t).answer ≡ done
 unfolding seal_and_peel
-also_seals {S} K plan x t t' y e = go (seal K (shape plan) x.loaded t) (seal K (shape plan) x.loaded t).answer refl e
+also_seals {S} K plan x t t' y e = go (seal K (shape plan) x t) (seal K (shape plan) x t).answer refl e
   where
     go : (o : Outcome S) (a : Answer) → o.answer ≡ a → seal_outcome (Ok y) t' ≡ peeled_out K (shape plan) a o → a ≡ done
     go o done same e = refl
@@ -32,12 +31,12 @@ also_seals {S} K plan x t t' y e = go (seal K (shape plan) x.loaded t) (seal K (
     go o (refused r) same e = let z : done ≡ refused r = ap (λ o. o.answer) e ∙ same in absurd cc
 
 module _ {S : Type 0} (K : Operations S) (m : Meaning S) (h : History) (plan : Plan) (x : Loading) (t t' : Tables S) (own : shape plan ≡ shape_of m)
-    (life : Life K m h (loading x.loaded) t) where
-  all_loaded : (seal K (shape plan) x.loaded t).answer ≡ done → loaded_places h ≡ length m.places
+    (life : Life K m h (loading x) t) where
+  all_loaded : (seal K (shape plan) x t).answer ≡ done → loaded_places h ≡ length m.places
   all_loaded served = ⊎_elim
       (λ (few : loaded_places h < length m.places).
-      let waits = ((law K).lives m h (loading x.loaded) t life).seal_waits few in
-      let both : done ≡ refused _ = sym served ∙ ap (λ s. (seal K s x.loaded t).answer) own ∙ waits in
+      let waits = ((law K).lives m h (loading x) t life).seal_waits few in
+      let both : done ≡ refused _ = sym served ∙ ap (λ s. (seal K s x t).answer) own ∙ waits in
       absurd cc)
       (λ (all : length m.places ≤ loaded_places h). let k = kept K m life in omega (arith, k.count, k.few))
       (cases_lt (loaded_places h) (length m.places))
@@ -52,5 +51,5 @@ module _ {S : Type 0} (K : Operations S) (m : Meaning S) (h : History) (plan : P
 pub peels_to_rest : {S : Type 0} (K : Operations S) → PeelsToRest K
 peels_to_rest K = record {
   served = λ m h plan x t y t' own life e. rests K m h plan x t t' own life y e;
-  refuses = λ m h plan x t e t' own life peels. ((calls_live K).seals plan x t (Err e) t' (only_seals K plan x t t' e peels)).own m h own life tt;
+  refuses = λ m h plan x t e t' own life peels. ((calls_live K).seals (shape plan) x t t' (Err e) (only_seals K plan x t t' e peels)).own m h own life tt;
 }

@@ -1,5 +1,5 @@
 -- How a run ends: at its seal, or at its finish.
-use Rattle.std.proofs.Common.{◌≡◌, ℕ, zero, suc, ◌*◌, ◌<◌, ◌≤◌, Bool, true, false, cond, ltb, List, [], ◌∷◌, length, Some, None, Ok, Err, Result, sym, refl, ap, ◌∙◌, subst, ⊎_elim, arith}
+use Rattle.std.proofs.Common.{◌≡◌, ℕ, zero, suc, ◌*◌, ◌<◌, ◌≤◌, Bool, true, false, cond, ltb, [], ◌∷◌, length, Some, None, Ok, Err, Result, sym, refl, ap, ◌∙◌, subst, ⊎_elim, arith}
 use Rattle.std.proofs.lemmas.Bool.{true≢false, cases_Bool, cond-false, le-ltb}
 use Rattle.samples.specs.declared.kind.Kind.{Ghosts as Operations}
 use Rattle.mojette.specs.Faults.{refusal_of}
@@ -25,8 +25,7 @@ use Rattle.tile.specs.declared.states.Finished.{Finished as FinishedTile}
 use Rattle.tile.specs.declared.states.Loading.{Loading}
 use Rattle.tile.specs.declared.states.Peeling.{Peeling}
 use Rattle.tile.specs.declared.states.Refused.{Refused}
-use Rattle.tile.specs.Calls.{Seals, SealsAndPeels, Finishes}
-use Rattle.tile.specs.Outcomes.{tables, seal_outcome}
+use Rattle.tile.specs.Outcomes.{seal_outcome}
 use Rattle.tile.specs.Outcomes as outcomes
 use Rattle.tile.specs.Worlds.{short_refusal}
 use Rattle.tile.proofs.Checks.{all_long}
@@ -37,13 +36,23 @@ use Rattle.runs.specs.Runs.{LoadsAll, AllLoaded}
 use Rattle.runs.specs.Worker.{one_worker, with_tables, sealing, finishing, ends}
 use Rattle.runs.proofs.Turns.{not_both, Free, Rest, all_peeled}
 
+module _ {S : Type 0} (K : Operations S) (plan : Plan) where
+  abbrev pub Seals : Loading → Tables S → Result Peeling (Refused Loading) → Tables S → Type 0
+  Seals x t r t' = seal_outcome r t' ≡ seal K (shape plan) x t
+
+  abbrev pub SealsAndPeels : Loading → Tables S → Result Peeling (Refused Loading) → Tables S → Type 0
+  SealsAndPeels x t r t' = seal_outcome r t' ≡ seal_and_peel K (shape plan) x t
+
+  abbrev pub Finishes : Peeling → Tables S → Result FinishedTile (Refused Peeling) → Type 0
+  Finishes x t r = outcomes.finish_outcome r t ≡ finish K (shape plan) x t
+
 same_refusal : {r s : Refusal} → refused r ≡ refused s → r ≡ s
 same_refusal {r} {s} e = cc
 
 -- Where sealing and peeling is refused, it is the seal that is.
 pub only_seals : {S : Type 0} (K : Operations S) (plan : Plan) (x : Loading) (t t' : Tables S) (r : Refused Loading) → SealsAndPeels K plan x t (Err r) t' → Seals K plan x t (Err r) t'
 unfolding seal_and_peel
-only_seals {S} K plan x t t' r e = go (seal K (shape plan) x.loaded t) (seal K (shape plan) x.loaded t).answer e
+only_seals {S} K plan x t t' r e = go (seal K (shape plan) x t) (seal K (shape plan) x t).answer e
   where
     go : (o : Outcome S) (a : Answer) → seal_outcome (Err r) t' ≡ peeled_out K (shape plan) a o → seal_outcome (Err r) t' ≡ o
     go o done e = absurd (not_both {a = done} {b = refused (refusal_of r.fault)} refl refl (sym (ap (λ o. o.answer) e)))
@@ -53,12 +62,12 @@ only_seals {S} K plan x t t' r e = go (seal K (shape plan) x.loaded t) (seal K (
 
 module _ {S : Type 0} (K : Operations S) (m : Meaning S) (plan : Plan) (own : shape plan ≡ shape_of m) (before : Tables S) (ready : Ready K m before) where
   -- Seal ----------------------------------------------------------------------------------------------------------------
-  module _ (x : Loading) (t t' : Tables S) (h : History) (life : Life K m h (loading x.loaded) t) (all : loaded_places h ≡ length m.places) where
-    enough : length m.places ≤ x.loaded
+  module _ (x : Loading) (t t' : Tables S) (h : History) (life : Life K m h (loading x) t) (all : loaded_places h ≡ length m.places) where
+    enough : length m.places ≤ x
     enough = omega (arith, (kept K m life).count)
 
-    step : (r : Outcome S) → r ≡ seal K (shape plan) x.loaded t → r ≡ seal K (shape_of m) x.loaded t
-    step r e = e ∙ ap (λ s. seal K s x.loaded t) own
+    step : (r : Outcome S) → r ≡ seal K (shape plan) x t → r ≡ seal K (shape_of m) x t
+    step r e = e ∙ ap (λ s. seal K s x t) own
 
     seal_refused : (r : Refused Loading) → Seals K plan x t (Err r) t' → Rebuilds K m before (refuses (refusal_of r.fault)) t'
     seal_refused r e = ⊎_elim
@@ -66,19 +75,19 @@ module _ {S : Type 0} (K : Operations S) (m : Meaning S) (plan : Plan) (own : sh
         (λ ghost.
         let is : refusal_of r.fault ≡ refusal 9 (C (shape_of m)) (R (shape_of m)) 0 = same_refusal (ap (λ o. o.answer) does ∙ ghost) in
         subst (λ a. Rebuilds K m before (refuses a) t') (sym is)
-        (ghosted ready (fails ghost) (_, ((calls_live K).seals plan x t (Err r) t' e).own m h own life tt)
+        (ghosted ready (fails ghost) (_, ((calls_live K).seals (shape plan) x t t' (Err r) e).own m h own life tt)
         (subst (λ o. Ghost K m (shown K m o.tables)) (sym does) (facts.ghost_shown all ghost))))
         (facts.seal_answers all)
       where
-        does : seal_outcome (Err r) t' ≡ seal K (shape_of m) x.loaded t
+        does : seal_outcome (Err r) t' ≡ seal K (shape_of m) x t
         does = step (seal_outcome (Err r) t') e
 
-        facts : WhileLoading K m h x.loaded t
-        facts = (law K).lives m h (loading x.loaded) t life
+        facts : WhileLoading K m h x t
+        facts = (law K).lives m h (loading x) t life
 
-        fails : (seal K (shape_of m) x.loaded t).answer ≡ ghosts_remain K m → criterion (shape_of m) ≡ false
+        fails : (seal K (shape_of m) x t).answer ≡ ghosts_remain K m → criterion (shape_of m) ≡ false
         fails ghost = ⊎_elim
-            (λ holds. absurd (not_both {a = done} {b = ghosts_remain K m} refl refl (sym (ap (λ o. o.answer) (seal_accepted K m x.loaded t (kept K m life).long enough holds)) ∙ ghost)))
+            (λ holds. absurd (not_both {a = done} {b = ghosts_remain K m} refl refl (sym (ap (λ o. o.answer) (seal_accepted K m x t (kept K m life).long enough holds)) ∙ ghost)))
             (λ fails. fails) (cases_Bool (criterion (shape_of m)))
 
     module _ (y : Peeling) (e : SealsAndPeels K plan x t (Ok y) t') where
@@ -86,18 +95,18 @@ module _ {S : Type 0} (K : Operations S) (m : Meaning S) (plan : Plan) (own : sh
       unfolding seal_and_peel
       criterion_holds = ⊎_elim (λ holds. holds)
           (λ fails.
-          let ghost = seal_ghost K m x.loaded t (kept K m life).long enough fails in
+          let ghost = seal_ghost K m x t (kept K m life).long enough fails in
           absurd (not_both {a = done} {b = ghosts_remain K m} refl refl
-          (ap (λ o. o.answer) (e ∙ ap (λ s. seal_and_peel K s x.loaded t) own ∙ ap (λ o. peeled_out K (shape_of m) o.answer o) ghost))))
+          (ap (λ o. o.answer) (e ∙ ap (λ s. seal_and_peel K s x t) own ∙ ap (λ o. peeled_out K (shape_of m) o.answer o) ghost))))
           (cases_Bool (criterion (shape_of m)))
 
       -- the tile that was sealed
       begun : World S
       begun = peel_seal K (incidence (shape_of m)) (world_of blank t)
 
-      accepted : seal K (shape_of m) x.loaded t ≡ peels_on begun done
+      accepted : seal K (shape_of m) x t ≡ peels_on begun done
       unfolding begun
-      accepted = seal_accepted K m x.loaded t (kept K m life).long enough criterion_holds
+      accepted = seal_accepted K m x t (kept K m life).long enough criterion_holds
 
       none_out_yet : (b : ℕ) → grants_of K m (event calls.seals done ∷ h) b ≡ 0
       unfolding since_seal out
@@ -110,24 +119,24 @@ module _ {S : Type 0} (K : Operations S) (m : Meaning S) (plan : Plan) (own : sh
         none = none_out_yet;
       }
 
-      peeled_so : world_of y.state t' ≡ turns K (shape_of m) (T K m) begun
+      peeled_so : world_of y t' ≡ turns K (shape_of m) (T K m) begun
       unfolding seal_and_peel
       peeled_so = ap (λ o. world_of (state_of o.stage blank) o.tables)
-          (e ∙ ap (λ s. seal_and_peel K s x.loaded t) own ∙ ap (λ o. peeled_out K (shape_of m) o.answer o) accepted)
+          (e ∙ ap (λ s. seal_and_peel K s x t) own ∙ ap (λ o. peeled_out K (shape_of m) o.answer o) accepted)
 
-      pub at_rest : Rest K m (world_of y.state t')
+      pub at_rest : Rest K m (world_of y t')
       at_rest = subst (Rest K m) (sym peeled_so) (all_peeled K m begun free)
 
   -- Finish --------------------------------------------------------------------------------------------------------------
-  module _ (holds : criterion (shape_of m) ≡ true) (x : Peeling) (t : Tables S) (rest : Rest K m (world_of x.state t)) where
+  module _ (holds : criterion (shape_of m) ≡ true) (x : Peeling) (t : Tables S) (rest : Rest K m (world_of x t)) where
     abbrev h : History
     h = rest.free.history
 
-    life : Life K m h (peeling x.state) t
+    life : Life K m h (peeling x) t
     life = rest.free.life
 
-    facts : WhilePeeling K m h x.state t
-    facts = (law K).lives m h (peeling x.state) t life
+    facts : WhilePeeling K m h x t
+    facts = (law K).lives m h (peeling x) t life
 
     all_found : (c : ℕ) → c < m.P * m.Q → Found K m h c
     all_found c l = ⊎_elim
@@ -136,48 +145,48 @@ module _ {S : Type 0} (K : Operations S) (m : Meaning S) (plan : Plan) (own : sh
         absurd (⊎_elim (λ waits. rest.idle w.0 w.1 waits) (λ held. omega (arith, rest.free.none w.0)) w.3))
         (λ found. found) (cases_Bool (missing (incidence (shape_of m)) (since_seal h) c))
 
-    none_missing : x.state.left ≡ 0
+    none_missing : x.left ≡ 0
     none_missing = facts.left_is ∙ number_zero (m.P * m.Q) _ all_found
 
-    none_held : x.state.out ≡ 0
+    none_held : x.out ≡ 0
     none_held = facts.out_is ∙ tally_zero (T K m) _ (λ b l. rest.free.none b)
 
-    does : finish K (shape_of m) x.state t ≡ finish_outcome K (shape_of m) x.state t (finish_answers K (bins_of (shape_of m)) x.state t.sums)
-    does = finish_is K m h x.state t (kept K m life)
+    does : finish K (shape_of m) x t ≡ finish_outcome K (shape_of m) x t (finish_answers K (bins_of (shape_of m)) x t.sums)
+    does = finish_is K m h x t (kept K m life)
 
-    finish_served : (f : FinishedTile) → Finishes K plan x t.sums (Ok f) → f.cells ≡ pixels_of (shape plan) → Rebuilds K m before (served f.cells) t
+    finish_served : (f : FinishedTile) → Finishes K plan x t (Ok f) → f ≡ pixels_of (shape plan) → Rebuilds K m before (served f) t
     finish_served f e size =
-        let ends = ((calls_live K).finishes plan x t.sums (Ok f) e t.picture t.marks t.counts t.queue).own m h own life tt in
+        let ends = ((calls_live K).finishes (shape plan) x t (Ok f) e).own m h own life tt in
         let done-facts = (law K).lives m (event calls.finishes done ∷ h) finished t ends in
         subst (λ n. Rebuilds K m before (served n) t) (sym (size ∙ ap pixels_of own)) (rebuilt ready holds (_, ends) done-facts.picture_agrees done-facts.no_other)
 
-    left_over_is : (r : Refusal) → (finish K (shape_of m) x.state t).answer ≡ refused r → (i : ℕ) × (b : ℕ) × (r ≡ refusal 15 i b 0)
+    left_over_is : (r : Refusal) → (finish K (shape_of m) x t).answer ≡ refused r → (i : ℕ) × (b : ℕ) × (r ≡ refusal 15 i b 0)
     unfolding finish_answers
     left_over_is r e = go (ltb (first_left_over K (bins_of (shape_of m)) t.sums) (bins_of (shape_of m))) refl
       where
         first : ℕ
         first = first_left_over K (bins_of (shape_of m)) t.sums
 
-        answers_as : (b : Bool) → ltb first (bins_of (shape_of m)) ≡ b → finish_answers K (bins_of (shape_of m)) x.state t.sums ≡ cond b (left_over first) peel.served
+        answers_as : (b : Bool) → ltb first (bins_of (shape_of m)) ≡ b → finish_answers K (bins_of (shape_of m)) x t.sums ≡ cond b (left_over first) peel.served
         answers_as b f =
-            cond-false (ltb 0 x.state.left) _ _ (le-ltb 0 x.state.left (omega (arith, none_missing)))
-            ∙ cond-false (ltb 0 x.state.out) _ _ (le-ltb 0 x.state.out (omega (arith, none_held)))
+            cond-false (ltb 0 x.left) _ _ (le-ltb 0 x.left (omega (arith, none_missing)))
+            ∙ cond-false (ltb 0 x.out) _ _ (le-ltb 0 x.out (omega (arith, none_held)))
             ∙ ap (λ u. cond u (left_over first) peel.served) f
 
         go : (b : Bool) → ltb first (bins_of (shape_of m)) ≡ b → (i : ℕ) × (b : ℕ) × (r ≡ refusal 15 i b 0)
         go true f = (
           place_at m.P m.Q (shape_of m).records first,
           bin_at m.P m.Q (shape_of m).records first,
-          same_refusal (sym e ∙ ap (λ o. o.answer) does ∙ ap (λ a. (finish_outcome K (shape_of m) x.state t a).answer) (answers_as true f)),
+          same_refusal (sym e ∙ ap (λ o. o.answer) does ∙ ap (λ a. (finish_outcome K (shape_of m) x t a).answer) (answers_as true f)),
         )
         go false f =
             absurd (not_both {a = done} {b = refused r} refl refl
-            (sym (ap (λ o. o.answer) does ∙ ap (λ a. (finish_outcome K (shape_of m) x.state t a).answer) (answers_as false f)) ∙ e))
+            (sym (ap (λ o. o.answer) does ∙ ap (λ a. (finish_outcome K (shape_of m) x t a).answer) (answers_as false f)) ∙ e))
 
-    finish_refused : (r : Refused Peeling) → Finishes K plan x t.sums (Err r) → Rebuilds K m before (refuses (refusal_of r.fault)) t
+    finish_refused : (r : Refused Peeling) → Finishes K plan x t (Err r) → Rebuilds K m before (refuses (refusal_of r.fault)) t
     finish_refused r e =
-        let answer : (finish K (shape_of m) x.state t).answer ≡ refused (refusal_of r.fault) =
-        ap (λ s. (finish K s x.state t).answer) (sym own) ∙ sym (ap (λ o. o.answer) (e t.picture t.marks t.counts t.queue)) in
+        let answer : (finish K (shape_of m) x t).answer ≡ refused (refusal_of r.fault) =
+        ap (λ s. (finish K s x t).answer) (sym own) ∙ sym (ap (λ o. o.answer) e) in
         let w = left_over_is (refusal_of r.fault) answer in
         subst (λ a. Rebuilds K m before (refuses a) t) (sym w.2)
         (contradicted ready holds (h, life) (answer ∙ ap refused w.2)
@@ -216,65 +225,61 @@ module _ {S : Type 0} (K : Operations S) (m : Meaning S) (plan : Plan) (lawful :
   none_loaded = refl
 
   -- the calls of a run, one after another
-  module _ (fits : None ≡ short_refusal (short (shape plan) before)) (x : Loading) (none : x.loaded ≡ 0) where
+  module _ (fits : None ≡ short_refusal (short (shape plan) before)) (x : Loading) (none : x ≡ 0) where
     is_ready : Ready K m before
     is_ready = begins fits
 
-    first_life : Life K m (event calls.opens done ∷ []) (loading x.loaded) before
+    first_life : Life K m (event calls.opens done ∷ []) (loading x) before
     first_life = subst (λ n. Life K m (event calls.opens done ∷ []) (loading n) before) (sym none) (born lawful is_ready.long)
 
     steps_are : one_worker K m before ≡ sealing K m (seal K (shape_of m) (length m.places) (loaded K m (length m.places) before))
     unfolding one_worker
     steps_are = rw (lawful, none_short (shape_of m) before is_ready.long) refl
 
-    -- `before` with the sums that are loaded
-    abbrev filled : List S → Tables S
-    filled sums = tables before.picture before.marks sums before.counts before.queue
+    module _ (mid : Tables S) where
+      pub loads_end : (r : Result Loading (Refused Loading)) → LoadsAll K m plan x before r mid → AllLoaded K m before r mid
+      loads_end r loads = loads own (event calls.opens done ∷ []) first_life none_loaded
 
-    module _ (sums : List S) where
-      pub loads_end : (r : Result Loading (Refused Loading)) → LoadsAll K m plan x before.sums r sums → AllLoaded K m before r (filled sums)
-      loads_end r loads = loads own before.picture before.marks before.counts before.queue (event calls.opens done ∷ []) first_life none_loaded
-
-      module _ (y : Loading) (loads : LoadsAll K m plan x before.sums (Ok y) sums) (t : Tables S) where
-        loads_so : AllLoaded K m before (Ok y) (filled sums)
+      module _ (y : Loading) (loads : LoadsAll K m plan x before (Ok y) mid) (t : Tables S) where
+        loads_so : AllLoaded K m before (Ok y) mid
         loads_so = loads_end (Ok y) loads
 
         -- what is sealed
-        loaded_so : seal K (shape_of m) y.loaded (filled sums) ≡ seal K (shape_of m) (length m.places) (loaded K m (length m.places) before)
-        loaded_so = ap (λ n. seal K (shape_of m) n (filled sums)) ((kept K m loads_so.1).count ∙ loads_so.2)
+        loaded_so : seal K (shape_of m) y mid ≡ seal K (shape_of m) (length m.places) (loaded K m (length m.places) before)
+        loaded_so = ap (λ n. seal K (shape_of m) n mid) ((kept K m loads_so.1).count ∙ loads_so.2)
             ∙ ap (seal K (shape_of m) (length m.places)) loads_so.3
 
-        pub unsealed_steps : (r : Refused Loading) → SealsAndPeels K plan y (filled sums) (Err r) t → (refuses (refusal_of r.fault), t) ≡ one_worker K m before
-        unsealed_steps r e = ap (sealing K m) (only_seals K plan y (filled sums) t r e ∙ ap (λ s. seal K s y.loaded (filled sums)) own ∙ loaded_so) ∙ sym steps_are
+        pub unsealed_steps : (r : Refused Loading) → SealsAndPeels K plan y mid (Err r) t → (refuses (refusal_of r.fault), t) ≡ one_worker K m before
+        unsealed_steps r e = ap (sealing K m) (only_seals K plan y mid t r e ∙ ap (λ s. seal K s y mid) own ∙ loaded_so) ∙ sym steps_are
 
-        pub run_unsealed : (r : Refused Loading) → SealsAndPeels K plan y (filled sums) (Err r) t → Rebuilds K m before (refuses (refusal_of r.fault)) t
-        run_unsealed r e = seal_refused K m plan own before is_ready y (filled sums) t loads_so.0 loads_so.1 loads_so.2 r (only_seals K plan y (filled sums) t r e)
+        pub run_unsealed : (r : Refused Loading) → SealsAndPeels K plan y mid (Err r) t → Rebuilds K m before (refuses (refusal_of r.fault)) t
+        run_unsealed r e = seal_refused K m plan own before is_ready y mid t loads_so.0 loads_so.1 loads_so.2 r (only_seals K plan y mid t r e)
 
-        module _ (w : Peeling) (peels : SealsAndPeels K plan y (filled sums) (Ok w) t) where
+        module _ (w : Peeling) (peels : SealsAndPeels K plan y mid (Ok w) t) where
           passes : criterion (shape_of m) ≡ true
-          passes = criterion_holds K m plan own before is_ready y (filled sums) t loads_so.0 loads_so.1 loads_so.2 w peels
+          passes = criterion_holds K m plan own before is_ready y mid t loads_so.0 loads_so.1 loads_so.2 w peels
 
-          rests : Rest K m (world_of w.state t)
-          rests = at_rest K m plan own before is_ready y (filled sums) t loads_so.0 loads_so.1 loads_so.2 w peels
+          rests : Rest K m (world_of w t)
+          rests = at_rest K m plan own before is_ready y mid t loads_so.0 loads_so.1 loads_so.2 w peels
 
-          finishes_so : (r : Result FinishedTile (Refused Peeling)) → Finishes K plan w t.sums r → outcomes.finish_outcome r t ≡ finish K (shape_of m) w.state t
-          finishes_so r e = e t.picture t.marks t.counts t.queue ∙ ap (λ s. finish K s w.state t) own
+          finishes_so : (r : Result FinishedTile (Refused Peeling)) → Finishes K plan w t r → outcomes.finish_outcome r t ≡ finish K (shape_of m) w t
+          finishes_so r e = e ∙ ap (λ s. finish K s w t) own
 
-          all_steps : one_worker K m before ≡ finishing K m (world_of w.state t)
-          all_steps = steps_are ∙ ap (sealing K m) (sym loaded_so ∙ accepted K m plan own before is_ready y (filled sums) t loads_so.0 loads_so.1 loads_so.2 w peels)
-              ∙ ap (finishing K m) (sym (peeled_so K m plan own before is_ready y (filled sums) t loads_so.0 loads_so.1 loads_so.2 w peels))
+          all_steps : one_worker K m before ≡ finishing K m (world_of w t)
+          all_steps = steps_are ∙ ap (sealing K m) (sym loaded_so ∙ accepted K m plan own before is_ready y mid t loads_so.0 loads_so.1 loads_so.2 w peels)
+              ∙ ap (finishing K m) (sym (peeled_so K m plan own before is_ready y mid t loads_so.0 loads_so.1 loads_so.2 w peels))
 
-          pub served_steps : (f : FinishedTile) → Finishes K plan w t.sums (Ok f) → f.cells ≡ pixels_of (shape plan) → (served f.cells, t) ≡ one_worker K m before
+          pub served_steps : (f : FinishedTile) → Finishes K plan w t (Ok f) → f ≡ pixels_of (shape plan) → (served f, t) ≡ one_worker K m before
           served_steps f e size = ap (λ n. (served n, t)) (size ∙ ap pixels_of own)
               ∙ ap (λ o. ends K m o.answer t) (finishes_so (Ok f) e) ∙ sym all_steps
 
-          pub unfinished_steps : (r : Refused Peeling) → Finishes K plan w t.sums (Err r) → (refuses (refusal_of r.fault), t) ≡ one_worker K m before
+          pub unfinished_steps : (r : Refused Peeling) → Finishes K plan w t (Err r) → (refuses (refusal_of r.fault), t) ≡ one_worker K m before
           unfinished_steps r e = ap (λ o. ends K m o.answer t) (finishes_so (Err r) e) ∙ sym all_steps
 
-          pub run_served : (f : FinishedTile) → Finishes K plan w t.sums (Ok f) → f.cells ≡ pixels_of (shape plan) → Rebuilds K m before (served f.cells) t
+          pub run_served : (f : FinishedTile) → Finishes K plan w t (Ok f) → f ≡ pixels_of (shape plan) → Rebuilds K m before (served f) t
           run_served = finish_served K m plan own before is_ready passes w t rests
 
-          pub run_unfinished : (r : Refused Peeling) → Finishes K plan w t.sums (Err r) → Rebuilds K m before (refuses (refusal_of r.fault)) t
+          pub run_unfinished : (r : Refused Peeling) → Finishes K plan w t (Err r) → Rebuilds K m before (refuses (refusal_of r.fault)) t
           run_unfinished = finish_refused K m plan own before is_ready passes w t rests
 
 -- A source that is not lawful.

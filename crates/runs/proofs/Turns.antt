@@ -1,5 +1,5 @@
 -- The calls of a run: each load, and the turns of one worker.
-use Rattle.std.proofs.Common.{◌≡◌, ℕ, zero, suc, ◌+◌, ◌<◌, ◌≤◌, true, false, eqb, ◌⊎◌, List, ◌∷◌, length, Ok, Err, Option, sym, refl, ap, ◌∙◌, subst, inl, inr, ⊎_elim, arith}
+use Rattle.std.proofs.Common.{◌≡◌, ℕ, zero, suc, ◌+◌, ◌<◌, ◌≤◌, true, false, eqb, ◌⊎◌, ◌∷◌, length, Ok, Err, Option, sym, refl, ap, ◌∙◌, subst, inl, inr, ⊎_elim, arith}
 use Rattle.std.proofs.lemmas.Bool.{true≢false, eq-eqb}
 use Rattle.samples.specs.declared.kind.Kind.{Ghosts as Operations}
 use Rattle.mojette.specs.Faults.{refusal_of}
@@ -22,8 +22,7 @@ use Rattle.law.proofs.Loading.{load_next, records_number}
 use Rattle.law.proofs.Outcome.{law}
 use Rattle.tile.specs.declared.states.Loading.{Loading}
 use Rattle.tile.specs.declared.states.Refused.{Refused}
-use Rattle.tile.specs.Calls.{Loads}
-use Rattle.tile.specs.Outcomes.{tables}
+use Rattle.tile.specs.Outcomes.{load_outcome}
 use Rattle.tile.proofs.Living.{calls_live}
 
 -- a served answer is no refusal
@@ -32,27 +31,25 @@ not_both p q e = true≢false (sym p ∙ ap is_served e ∙ q)
 
 module _ {S : Type 0} (K : Operations S) (m : Meaning S) (plan : Plan) (own : shape plan ≡ shape_of m) where
   -- Load ----------------------------------------------------------------------------------------------------------------
-  module _ (x : Loading) (sums sums' : List S) (picture : List S) (marks counts queue : List ℕ) (h : History)
-      (life : Life K m h (loading x.loaded) (tables picture marks sums counts queue)) where
-    pub loaded_one : (y : Loading) → Loads K plan m x sums (Ok y) sums' → Life K m (event calls.loads done ∷ h) (loading y.loaded) (tables picture marks sums' counts queue)
-    loaded_one y e = ((calls_live K).loads plan m x sums (Ok y) sums' e picture marks counts queue).own m h (own, refl) life tt
+  module _ (x : Loading) (t t' : Tables S) (h : History) (life : Life K m h (loading x) t) where
+    pub loaded_one : (y : Loading) → load_outcome (Ok y) t' ≡ load K (shape plan) m x t → Life K m (event calls.loads done ∷ h) (loading y) t'
+    loaded_one y e = ((calls_live K).loads (shape plan) m x t t' (Ok y) e).own m h (own, refl) life tt
 
     -- the tables after one load more than n
-    pub load_goes : (y : Loading) → Loads K plan m x sums (Ok y) sums' → (n : ℕ) → loaded_places h ≡ n → (t : Tables S) → tables picture marks sums counts queue ≡ loaded K m n t →
-        tables picture marks sums' counts queue ≡ loaded K m (n + 1) t
-    load_goes y e n number t is =
+    pub load_goes : (y : Loading) → load_outcome (Ok y) t' ≡ load K (shape plan) m x t → (n : ℕ) → loaded_places h ≡ n → (first : Tables S) → t ≡ loaded K m n first →
+        t' ≡ loaded K m (n + 1) first
+    load_goes y e n number first is =
         let one : suc n ≡ n + 1 = omega arith in
-        ap (λ o. o.tables) (e picture marks counts queue) ∙ ap (λ s. (load K s m x.loaded (tables picture marks sums counts queue)).tables) own
-        ∙ ap (λ k. (load K (shape_of m) m k (tables picture marks sums counts queue)).tables) ((kept K m life).count ∙ number)
-        ∙ ap (λ u. (load K (shape_of m) m n u).tables) is ∙ ap (λ k. loaded K m k t) one
+        ap (λ o. o.tables) e ∙ ap (λ s. (load K s m x t).tables) own
+        ∙ ap (λ k. (load K (shape_of m) m k t).tables) ((kept K m life).count ∙ number)
+        ∙ ap (λ u. (load K (shape_of m) m n u).tables) is ∙ ap (λ k. loaded K m k first) one
 
-    pub load_serves : loaded_places h < length m.places → (r : Refused Loading) → Loads K plan m x sums (Err r) sums' → ⊥
+    pub load_serves : loaded_places h < length m.places → (r : Refused Loading) → load_outcome (Err r) t' ≡ load K (shape plan) m x t → ⊥
     load_serves few r e =
         let k = kept K m life in
-        let next = load_next K m x.loaded (tables picture marks sums counts queue) k.long (omega (arith, k.count)) in
+        let next = load_next K m x t k.long (omega (arith, k.count)) in
         not_both {a = done} {b = refused (refusal_of r.fault)} refl refl
-        (sym (ap (λ o. o.answer) next) ∙ ap (λ s. (load K s m x.loaded (tables picture marks sums counts queue)).answer) (sym own)
-        ∙ sym (ap (λ o. o.answer) (e picture marks counts queue)))
+        (sym (ap (λ o. o.answer) next) ∙ ap (λ s. (load K s m x t).answer) (sym own) ∙ sym (ap (λ o. o.answer) e))
 
 -- What a take and a settle change of the history --------------------------------------------------------------------------
 module _ {S : Type 0} (K : Operations S) (m : Meaning S) (h : History) where

@@ -8,17 +8,17 @@ use Rattle.plan.specs.Shapes.{shape}
 use Rattle.law.specs.Law.{T, Waits, grants_of}
 use Rattle.law.specs.Life.{History, Life, event, seals}
 use Rattle.law.specs.Steps.{loading, peeling, Tables, refused}
+use Rattle.law.specs.Turns.{seal_and_peel}
 use Rattle.tile.specs.declared.states.Loading.{Loading}
 use Rattle.tile.specs.declared.states.Peeling.{Peeling}
 use Rattle.tile.specs.declared.states.Refused.{Refused}
-use Rattle.tile.specs.Calls.{SealsAndPeels}
-use Rattle.tile.specs.States.{loaded_in, state_in}
+use Rattle.tile.specs.Outcomes.{seal_outcome}
 
 module _ {S : Type 0} (K : Operations S) (m : Meaning S) where
   -- A life of the tile that comes to this state and these tables, in which no bin waits and no grant is out.
   pub record Rests (x : Peeling) (t : Tables S) : Type 0 where
     pub history : History
-    pub life : Life K m history (peeling (state_in x)) t
+    pub life : Life K m history (peeling x) t
     pub idle : (b : ℕ) → b < T K m → ¬ (Waits K m history b)
     pub none_out : (b : ℕ) → grants_of K m history b ≡ 0
 
@@ -26,7 +26,7 @@ module _ {S : Type 0} (K : Operations S) (m : Meaning S) where
 -- nothing is out; refused, it goes on with a seal that was refused so.
 pub record PeelsToRest {S : Type 0} (K : Operations S) : Type 0 where
   pub served : (m : Meaning S) (h : History) (plan : Plan) (x : Loading) (t : Tables S) (y : Peeling) (t' : Tables S) → shape plan ≡ shape_of m →
-      Life K m h (loading (loaded_in x)) t → SealsAndPeels K plan x t (Ok y) t' → Rests K m y t'
+      Life K m h (loading x) t → seal_outcome (Ok y) t' ≡ seal_and_peel K (shape plan) x t → Rests K m y t'
   pub refuses : (m : Meaning S) (h : History) (plan : Plan) (x : Loading) (t : Tables S) (e : Refused Loading) (t' : Tables S) → shape plan ≡ shape_of m →
-      Life K m h (loading (loaded_in x)) t → SealsAndPeels K plan x t (Err e) t' →
-      Life K m (event seals (refused (refusal_of e.fault)) ∷ h) (loading (loaded_in e.back)) t'
+      Life K m h (loading x) t → seal_outcome (Err e) t' ≡ seal_and_peel K (shape plan) x t →
+      Life K m (event seals (refused (refusal_of e.fault)) ∷ h) (loading e.back) t'

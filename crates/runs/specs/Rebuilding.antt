@@ -4,7 +4,7 @@ use Rattle.samples.specs.declared.kind.Kind.{Ghosts as Operations}
 use Rattle.mojette.specs.declared.fault.Fault.{Fault}
 use Rattle.mojette.specs.Faults.{refusal_of}
 use Rattle.mojette.specs.Meaning.{Meaning, Agrees, Ghost, Lawful, shape_of, verdict, pixels_of}
-use Rattle.mojette.specs.Refusals.{Refusal, refusal}
+use Rattle.mojette.specs.Refusals.{Refusal, short_table, ghost_left, leftover_sum}
 use Rattle.peeling.specs.declared.state.State.{State}
 use Rattle.plan.specs.declared.plan.Plan.{Plan}
 use Rattle.plan.specs.Shapes.{shape}
@@ -12,7 +12,6 @@ use Rattle.law.specs.Law.{shown}
 use Rattle.law.specs.Life.{LongEnough}
 use Rattle.law.specs.Steps.{loading, peeling, finished, Tables, refused, short, criterion, C, R, finish}
 use Rattle.tile.specs.declared.states.Finished.{Finished}
-use Rattle.tile.specs.States.{cells_in}
 use Rattle.runs.specs.Runs.{Lived}
 
 -- an answer: served with a picture of so many cells, or refused
@@ -21,7 +20,7 @@ pub data Answer : Type 0 where
   refuses : Refusal → Answer
 
 abbrev pub answer : Result Finished Fault → Answer
-answer (Ok x) = served (cells_in x)
+answer (Ok x) = served x
 answer (Err e) = refuses (refusal_of e)
 
 module _ {S : Type 0} (K : Operations S) (m : Meaning S) where
@@ -35,12 +34,12 @@ module _ {S : Type 0} (K : Operations S) (m : Meaning S) where
   -- picture is the one tile that agrees. What is left is reached by a life of the tile.
   pub data Rebuilds (before : Tables S) : Answer → Tables S → Type 0 where
     unlawful : {r : Refusal} → verdict (shape_of m) ≡ Some r → Rebuilds before (refuses r) before
-    too_short : {k : ℕ} → Lawful (shape_of m) → short (shape_of m) before ≡ suc k → Rebuilds before (refuses (refusal 5 (suc k) 0 0)) before
+    too_short : {k : ℕ} → Lawful (shape_of m) → short (shape_of m) before ≡ suc k → Rebuilds before (refuses (short_table (suc k))) before
     ghosted : {after : Tables S} {n : ℕ} → Ready before → criterion (shape_of m) ≡ false → Lived K m (loading n) after → Ghost K m (shown K m after) →
-        Rebuilds before (refuses (refusal 9 (C (shape_of m)) (R (shape_of m)) 0)) after
+        Rebuilds before (refuses (ghost_left (C (shape_of m)) (R (shape_of m)))) after
     contradicted : {after : Tables S} {s : State} {i b : ℕ} → Ready before → criterion (shape_of m) ≡ true → Lived K m (peeling s) after →
-        (finish K (shape_of m) s after).answer ≡ refused (refusal 15 i b 0) → ((tile : List S) → Agrees K m tile → ⊥) →
-        Rebuilds before (refuses (refusal 15 i b 0)) after
+        (finish K (shape_of m) s after).answer ≡ refused (leftover_sum i b) → ((tile : List S) → Agrees K m tile → ⊥) →
+        Rebuilds before (refuses (leftover_sum i b)) after
     rebuilt : {after : Tables S} → Ready before → criterion (shape_of m) ≡ true → Lived K m finished after →
         Agrees K m (shown K m after) → ((tile : List S) → Agrees K m tile → tile ≡ shown K m after) →
         Rebuilds before (served (pixels_of (shape_of m))) after

@@ -3,7 +3,7 @@
 use Rattle.std.specs.Prelude.{ℕ, zero, suc, length, Some, None, Option}
 use Rattle.samples.specs.declared.kind.Kind.{Ghosts as Operations}
 use Rattle.mojette.specs.Meaning.{Meaning, shape_of, verdict, pixels_of, bins_of}
-use Rattle.mojette.specs.Refusals.{Refusal, refusal}
+use Rattle.mojette.specs.Refusals.{Refusal, short_table}
 use Rattle.peeling.specs.Steps.{World}
 use Rattle.law.specs.Steps.{Tables, refused, Outcome, world_of, tables_of, blank, short, seal, finish}
 use Rattle.law.specs.Steps as step
@@ -29,7 +29,7 @@ module _ {S : Type 0} (K : Operations S) (m : Meaning S) where
 
   -- where table n is the first that is too short, 0 if none is
   abbrev pub with_tables : ℕ → Tables S → Answer × Tables S
-  with_tables (suc k) t = (refuses (refusal 5 (suc k) 0 0), t)
+  with_tables (suc k) t = (refuses (short_table (suc k)), t)
   with_tables zero t = sealing (seal K (shape_of m) (length m.places) (loaded K m (length m.places) t))
 
   abbrev pub judged : Option Refusal → Tables S → Answer × Tables S

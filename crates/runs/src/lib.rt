@@ -1,4 +1,4 @@
-// Whole runs of calls on a tile.
+//! Whole runs of calls on a tile.
 #![tactic(auto)]
 
 pub mod rebuild;

@@ -8,9 +8,7 @@ ghost use Rattle.runs.specs.Alone.{PeelsToRest};
 ghost use Rattle.runs.specs.Rebuilding.{answer, Rebuilds, ServesExactly, Fills};
 ghost use Rattle.runs.specs.Worker.{one_worker};
 ghost use Rattle.tile.specs.Lives.{CallsLive};
-ghost use Rattle.tile.specs.Outcomes.{tables};
-ghost use Rattle.tile.specs.States.{loaded_in};
-ghost use Rattle.tile.specs.Worlds.{StillLent, held, short_refusal};
+ghost use Rattle.tile.specs.Worlds.{IsStillLent, contents, short_refusal};
 
 use crate::steps::load_all;
 use mojette::Fault;
@@ -27,55 +25,46 @@ fn run<S: Source>(
 ) -> Result<Finished, Fault>
     requires lawful { Lawful (shape_of (S.meaning source.now)) }
     requires own { shape plan.now ≡ shape_of (S.meaning source.now) }
-    requires opened { loaded_in tile ≡ 0 }
-    requires long { None ≡ short_refusal (short (shape plan.now) (held tables.old)) }
-    ensures lent { StillLent tables.old tables.new }
-    ensures run { Rebuilds S.Sample.Kind (S.meaning source.now) (held tables.old) (answer result) (held tables.new) }
-    ensures by_steps { (answer result, held tables.new) ≡ one_worker S.Sample.Kind (S.meaning source.now) (held tables.old) }
+    requires opened { tile ≡ 0 }
+    requires long { None ≡ short_refusal (short (shape plan.now) (contents tables.old)) }
+    ensures lent { IsStillLent tables.old tables.new }
+    ensures run { Rebuilds S.Sample.Kind (S.meaning source.now) (contents tables.old)
+        (answer result) (contents tables.new) }
+    ensures by_steps { (answer result, contents tables.new)
+        ≡ one_worker S.Sample.Kind (S.meaning source.now) (contents tables.old) }
 {
-    let Ok(tile) = load_all(tile, source, plan, tables.sums) else {
+    let Ok(tile) = load_all(tile, source, plan, tables) else {
         unreachable()
     };
-    let tile = tile.seal_and_peel(
-        plan,
-        tables.picture,
-        tables.marks,
-        tables.sums,
-        tables.counts,
-        tables.queue,
-    )?;
-    let sums = &mut *tables.sums;
-    Ok(tile.finish(plan, sums)?)
+    let tile = tile.seal_and_peel(plan, tables)?;
+    Ok(tile.finish(plan, tables)?)
 }
 
-// Opens, loads, seals and peels, and finishes. The tables are the callers' and stay slices; they are checked before the plan is filled.
+/// Rebuilds the tile of a source: opens, loads, seals and peels, and finishes. The picture is then in the picture table, row by
+/// row, and `Finished::picture` hands it out.
+///
+/// Refuses a source that is not lawful (1 to 4) and a table that is too short (5), and then leaves plan and tables as they were;
+/// too few whole places (9), and then shows a ghost in the picture; and sums that contradict one another (15).
 pub fn rebuild<S: Source>(
     source: &S,
     plan: &mut Plan,
-    picture: &mut [S::Sample],
-    marks: &mut [u8],
-    sums: &mut [S::Sample],
-    counts: &mut [u8],
-    queue: &mut [u16],
+    tables: &mut Tables<S::Sample>,
 ) -> Result<Finished, Fault>
-    ensures run { Rebuilds S.Sample.Kind (S.meaning source.now) (tables picture.old marks.old sums.old counts.old queue.old) (answer result) (tables picture.new marks.new sums.new counts.new queue.new) }
-    ensures by_steps { (answer result, tables picture.new marks.new sums.new counts.new queue.new) ≡ one_worker S.Sample.Kind (S.meaning source.now) (tables picture.old marks.old sums.old counts.old queue.old) }
-    ensures exactly { ServesExactly S.Sample.Kind (S.meaning source.now) (tables picture.old marks.old sums.old counts.old queue.old) (answer result) }
-    ensures plan { Fills S.Sample.Kind (S.meaning source.now) (tables picture.old marks.old sums.old counts.old queue.old) plan.old plan.new }
+    ensures lent { IsStillLent tables.old tables.new }
+    ensures run { Rebuilds S.Sample.Kind (S.meaning source.now) (contents tables.old)
+        (answer result) (contents tables.new) }
+    ensures by_steps { (answer result, contents tables.new)
+        ≡ one_worker S.Sample.Kind (S.meaning source.now) (contents tables.old) }
+    ensures exactly { ServesExactly S.Sample.Kind (S.meaning source.now) (contents tables.old)
+        (answer result) }
+    ensures plan { Fills S.Sample.Kind (S.meaning source.now) (contents tables.old) plan.old plan.new }
     ensures law { Law S.Sample.Kind }
     ensures calls { CallsLive S.Sample.Kind }
     ensures alone { PeelsToRest S.Sample.Kind }
 {
-    let mut tables = Tables {
-        picture,
-        marks,
-        sums,
-        counts,
-        queue,
-    };
     let mut opened = Plan::fresh();
     let tile = open(source, &mut opened)?;
     tables.check(&opened)?;
     *plan = opened;
-    run(tile, source, plan, &mut tables)
+    run(tile, source, plan, tables)
 }

@@ -1,12 +1,13 @@
 // Rebuilding tiles of 2 by 2 in sum words.
 use crate::rebuild::rebuild;
-use mojette::{Record, Refusal};
+use mojette::{Fault, Record, Table};
 use plan::Plan;
 use samples::SumWord;
 use source::Rack;
+use tile::Tables;
 
-// Number, first and second value of the refusal, or zeros, and the picture, which began with sevens.
-type Told = ((usize, usize, usize), [u16; 5]);
+// Why it was refused, if it was, and the picture, which began with sevens.
+type Told = (Option<Fault>, [u16; 5]);
 
 // Rebuilds from records and sums on tables of so many positions.
 fn rebuilt(records: &[Record], sums: &[u16], positions: usize) -> Option<Told> {
@@ -20,23 +21,15 @@ fn rebuilt(records: &[Record], sums: &[u16], positions: usize) -> Option<Told> {
     let mut marks = [9; 4];
     let mut lent = [SumWord { value: 7 }; 8];
     let (mut counts, mut queue) = ([9; 8], [9; 8]);
-    let answer = rebuild(
-        &rack,
-        &mut plan,
-        &mut picture,
-        &mut marks,
-        &mut lent,
-        &mut counts,
-        queue.get_mut(..positions)?,
-    );
-    let told = match answer {
-        Ok(_) => (0, 0, 0),
-        Err(fault) => {
-            let refusal = Refusal::from(fault);
-            (refusal.number, refusal.first, refusal.second)
-        }
+    let mut tables = Tables {
+        picture: &mut picture,
+        marks: &mut marks,
+        sums: &mut lent,
+        counts: &mut counts,
+        queue: queue.get_mut(..positions)?,
     };
-    Some((told, picture.map(|sample| sample.value)))
+    let answer = rebuild(&rack, &mut plan, &mut tables);
+    Some((answer.err(), picture.map(|sample| sample.value)))
 }
 
 #[test]
@@ -47,14 +40,11 @@ fn a_picture_without_a_recorder(rt: HostRuntime) {
         Record::new(-1, 1, 0),
     ];
     let sums = [2, 5, 3, 0, 0, 4, 5, 1];
-    assert_eq!(rt;
-        rebuilt(&records, &sums, 8),
-        Some(((0, 0, 0), [1, 2, 3, 4, 7]))
-    );
+    assert_eq!(rt; rebuilt(&records, &sums, 8), Some((None, [1, 2, 3, 4, 7])));
     // the queue is too short, and nothing is written
     assert_eq!(rt;
         rebuilt(&records, &sums, 7),
-        Some(((5, 5, 0), [7, 7, 7, 7, 7]))
+        Some((Some(Fault::ShortTable(Table::Queue)), [7, 7, 7, 7, 7]))
     );
 }
 
@@ -63,11 +53,12 @@ fn a_ghost_and_a_contradiction(rt: HostRuntime) {
     let records = [Record::new(1, 0, 0), Record::new(0, 1, 0)];
     assert_eq!(rt;
         rebuilt(&records, &[3, 7, 6, 4], 8),
-        Some(((9, 1, 1), [1, 0xffff, 0xffff, 1, 7]))
+        Some((Some(Fault::Ghost(1, 1)), [1, 0xffff, 0xffff, 1, 7]))
     );
     // one sum is told as 6, and was 5
     let records = [Record::new(1, 1, 0), Record::new(-1, 1, 0)];
-    assert!(rt; rebuilt(&records, &[2, 5, 3, 4, 6, 1], 8).is_some_and(|told| told.0 == (15, 1, 1)));
+    let told = rebuilt(&records, &[2, 5, 3, 4, 6, 1], 8);
+    assert_eq!(rt; told.map(|told| told.0), Some(Some(Fault::LeftOver(1, 1))));
 }
 
 #[test]
@@ -77,16 +68,15 @@ fn a_short_table_leaves_the_plan(rt: HostRuntime) {
     if let (Ok(rack), Ok(mut plan)) = (Rack::new(2, 2, &records, &run), Plan::of(3, 1, &records)) {
         let (mut picture, mut marks) = ([SumWord { value: 7 }; 4], [9; 4]);
         let (mut sums, mut counts, mut queue) = ([SumWord { value: 7 }; 2], [9; 2], [9; 1]);
-        let answer = rebuild(
-            &rack,
-            &mut plan,
-            &mut picture,
-            &mut marks,
-            &mut sums,
-            &mut counts,
-            &mut queue,
-        );
-        assert!(rt; answer.is_err());
+        let mut tables = Tables {
+            picture: &mut picture,
+            marks: &mut marks,
+            sums: &mut sums,
+            counts: &mut counts,
+            queue: &mut queue,
+        };
+        let answer = rebuild(&rack, &mut plan, &mut tables);
+        assert_eq!(rt; answer.err(), Some(Fault::ShortTable(Table::Queue)));
         assert_eq!(rt; (plan.columns(), plan.rows()), (3, 1));
     } else {
         assert!(rt; false);

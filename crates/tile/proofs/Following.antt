@@ -1,14 +1,13 @@
 -- What code that is lent the tables passes on.
-use Rattle.std.proofs.Common.{◌≡◌, ℕ, ◌+◌, ◌-◌, ◌*◌, ◌<◌, ◌≤◌, Bool, true, false, cond, ◌&&◌, ◌⊎◌, eqb, ltb, leb, List, length, get_or, Some, None, Option, Ok, Err, inl, inr, refl, sym, ap, ◌∙◌, subst, ⊎_elim, arith}
+use Rattle.std.proofs.Common.{◌≡◌, ℕ, ◌+◌, ◌-◌, ◌<◌, ◌≤◌, Bool, true, false, cond, ◌&&◌, ◌⊎◌, eqb, ltb, leb, List, length, get_or, Some, None, Option, Ok, Err, inl, inr, refl, sym, ap, ◌∙◌, subst, ⊎_elim, arith}
 use Rattle.std.proofs.lemmas.Bool.{and_parts, eqb-true, le-ltb}
 use Rattle.samples.specs.declared.kind.Kind.{Ghosts as Operations}
 use Rattle.mojette.specs.declared.fault.Fault.{Fault}
-use Rattle.mojette.specs.declared.fault.Fault.TheVariants.{NoneWaits, BadCell}
 use Rattle.mojette.specs.Meaning.{Shape, pixels_of, bins_of}
 use Rattle.katz.proofs.Pixels.{cell_below}
 use Rattle.peeling.specs.declared.state.State.{State}
 use Rattle.peeling.specs.Counting.{number, least}
-use Rattle.peeling.specs.Steps.{World, with_state, Taken, none_waits, bad_cell, take_answers, taken, spent, peeled}
+use Rattle.peeling.specs.Steps.{World, with_state, Taken, none_waits, bad_cell, grants, take_answers, taken, spent, peeled}
 use Rattle.peeling.proofs.Counts.{least_some, least_passes}
 use Rattle.plan.specs.declared.plan.Plan.{Plan}
 use Rattle.plan.specs.Shapes.{shape}
@@ -21,11 +20,11 @@ use Rattle.walk.specs.declared.pixel.Pixel.{Pixel}
 use Rattle.walk.specs.Finding.{OfTile, pixel_in, alone, missing_at, lone}
 use Rattle.notes.specs.declared.tally.Tally.{Ghosts as Telling}
 use Rattle.tile.specs.declared.lent.Tables.{Tables as Lent}
-use Rattle.tile.specs.Turns.{Fronts}
-use Rattle.tile.specs.Worlds.{StillLent, held, told}
+use Rattle.tile.specs.Ring.{Fronts}
+use Rattle.tile.specs.Worlds.{IsStillLent, contents, told}
 
 -- What is lent stays long enough.
-pub long_on : {S : Type 0} (plan : Plan) (a b : Lent S) → StillLent a b → LongEnough (shape plan) (held a) → LongEnough (shape plan) (held b)
+pub long_on : {S : Type 0} (plan : Plan) (a b : Lent S) → IsStillLent a b → LongEnough (shape plan) (contents a) → LongEnough (shape plan) (contents b)
 long_on plan a b lent long = record {
   picture = omega (arith, lent.picture_size, long.picture);
   marks = omega (arith, lent.marks_size, long.marks);
@@ -39,7 +38,7 @@ pub cell_inside : (plan : Plan) (x : Pixel) → OfTile (shape plan).P (shape pla
 cell_inside plan x of = subst (λ n. n < pixels_of (shape plan)) (sym of.cell) (cell_below (shape plan).P (shape plan).Q x.column x.row of.column of.row)
 
 -- So are the tables with the counts that a tally stands for.
-pub told_long : {S X : Type 0} (T : Telling X) (plan : Plan) (x : X) (t : Lent S) → LongEnough (shape plan) (held t) → LongEnough (shape plan) (told T (shape plan) x t)
+pub told_long : {S X : Type 0} (T : Telling X) (plan : Plan) (x : X) (t : Lent S) → LongEnough (shape plan) (contents t) → LongEnough (shape plan) (told T (shape plan) x t)
 told_long T plan x t long = record {
   picture = long.picture;
   marks = long.marks;
@@ -72,9 +71,9 @@ lone_missing s marks at x e = go (ltb at (bins_of s) && leb (pixels_of s) (lengt
 
 -- why no position is taken
 refuses : (a : Taken) (bins : ℕ) (e : Fault) → Fronts a bins (Err e) → (a ≡ none_waits) ⊎ ((i : ℕ) × (a ≡ bad_cell i))
-refuses a bins NoneWaits h = inl h
-refuses a bins (BadCell i) h = inr (i, h)
-refuses a bins _ h = absurd h
+refuses none_waits bins e h = inl refl
+refuses (bad_cell i) bins e h = inr (i, refl)
+refuses (grants b) bins e h = absurd cc
 
 module _ {S : Type 0} (K : Operations S) (s : Shape) (w : World S) (long : LongEnough s (tables_of w)) where
   turn_bad : (i : ℕ) → take_answers (bins_of s) w.state w.queue ≡ bad_cell i → turn K s w ≡ w

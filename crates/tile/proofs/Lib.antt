@@ -6,7 +6,7 @@ pub mod Keeping
 pub mod Leftovers
 pub mod Living
 pub mod Parts
-pub mod Rings
 pub mod Sealing
 pub mod Showing
 pub mod Turns
+pub mod Ghosted

@@ -1,8 +1,8 @@
+pub mod Buffers
 pub mod Outcomes
 pub mod Calls
 pub mod Loads
 pub mod Seals
 pub mod Worlds
 pub mod Lives
-pub mod States
-pub mod Turns
+pub mod Ring

@@ -4,7 +4,7 @@ use Rattle.samples.specs.declared.kind.Kind.{Ghosts as Operations}
 use Rattle.mojette.specs.declared.fault.Fault.{Fault}
 use Rattle.mojette.specs.Faults.{refusal_of}
 use Rattle.mojette.specs.Meaning.{Shape, pixels_of}
-use Rattle.mojette.specs.Refusals.{refusal}
+use Rattle.mojette.specs.Refusals.{ghost_left}
 use Rattle.peeling.specs.declared.state.State.{State}
 use Rattle.peeling.specs.Steps.{appended, queue_with}
 use Rattle.peeling.specs.Steps.{seal as peel_seal}
@@ -30,9 +30,9 @@ singles_queued bins (suc k) counts r = cond (slice_index counts k == 1) (with_po
 -- The criterion holds, and the picture is as it was; or it fails, and the picture shows the ghost.
 abbrev pub Judges : {S : Type 0} → Operations S → Shape → List S → Result (Unit {0}) Fault → List S → Type 0
 Judges K shape picture (Ok _) picture' = (criterion shape ≡ true) × (picture' ≡ picture)
-Judges K shape picture (Err e) picture' = (criterion shape ≡ false) × (picture' ≡ ghosted K shape picture) × (refusal_of e ≡ refusal 9 (C shape) (R shape) 0)
+Judges K shape picture (Err e) picture' = (criterion shape ≡ false) × (picture' ≡ ghosted K shape picture) × (refusal_of e ≡ ghost_left (C shape) (R shape))
 
 -- The seal is accepted, on tables that are long enough, and they are as they were; or what it leaves and answers is the step of a seal.
 abbrev pub Accepts : {S : Type 0} → Operations S → Shape → ℕ → Tables S → Result (Unit {0}) (Refused Loading) → Tables S → Type 0
 Accepts K shape n t (Ok _) t' = (seal K shape n t ≡ peels_on (peel_seal K (incidence shape) (world_of blank t)) done) × LongEnough shape t × (t' ≡ t)
-Accepts K shape n t (Err e) t' = refuse (loading e.back.loaded) t' (refusal_of e.fault) ≡ seal K shape n t
+Accepts K shape n t (Err e) t' = refuse (loading e.back) t' (refusal_of e.fault) ≡ seal K shape n t

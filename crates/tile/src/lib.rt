@@ -1,8 +1,8 @@
-// The calls on a tile: the states that they take and hand on, and the tables that they work on.
+//! The calls on a tile: the states that they take and hand on, and the tables that they work on.
 #![tactic(auto)]
 
 pub mod alone;
-pub mod counts;
+pub mod buffers;
 pub mod finish;
 pub mod lent;
 pub mod lives;
@@ -21,6 +21,7 @@ mod tests;
 #[cfg(test)]
 mod uses;
 
+pub use buffers::Buffers;
 pub use lent::Tables;
 pub use lives::calls_live;
 pub use opening::open;

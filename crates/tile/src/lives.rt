@@ -3,7 +3,7 @@ ghost use Rattle.tile.specs.Lives.{CallsLive};
 
 use samples::Kind;
 
-// For every kind of sample, and each of the seven calls.
+/// For every kind of sample, and each of the seven calls.
 pub fn calls_live<K: Kind>()
     ensures { CallsLive K.Kind }
 {}

@@ -1,15 +1,13 @@
-// Loading the places of a source, one after another.
+// What loading a place is made of.
 ghost use Rattle.std.specs.Prelude.{◌≡◌, ◌+◌, ◌<◌, ◌≤◌, length};
 ghost use Rattle.law.specs.Steps.{written, fits};
 ghost use Rattle.mojette.specs.Bounds.{most_step};
 ghost use Rattle.plan.specs.Laid.{record_of};
 ghost use Rattle.plan.specs.Shapes.{shape, places_of};
 ghost use Rattle.source.specs.Questions.{bins_at};
-ghost use Rattle.tile.specs.Calls.{Loads};
 ghost use Rattle.tile.specs.Loads.{bin_value};
 
-use crate::states::{Loading, Refused};
-use mojette::{Direction, Fault, Record, Table};
+use mojette::{Direction, Record};
 use plan::{Place, Plan};
 use samples::Kind;
 use source::{Sizes, Source};
@@ -25,7 +23,13 @@ fn bin_or_zero<S: Source>(source: &S, i: usize, b: usize) -> S::Sample
 // Writes the bins of a place at their positions.
 // It takes the positions, and not their cells alone, since its contract also says what stands before and behind them. That the place
 // is one of the source stands in a clause, as for the strip.
-fn write_place<S: Source>(source: &S, i: usize, from: usize, bins: usize, sums: &mut [S::Sample])
+pub(crate) fn write_place<S: Source>(
+    source: &S,
+    i: usize,
+    from: usize,
+    bins: usize,
+    sums: &mut [S::Sample],
+)
     requires place { (i < length (S.meaning source.now).places) × (bins ≡ bins_at (S.meaning source.now) i) }
     requires room { from + bins ≤ length sums.old }
     ensures { sums.new ≡ written from bins (bin_value S.Sample.Kind (S.meaning source.now) i) sums.old }
@@ -52,7 +56,7 @@ fn record_of(place: Place) -> Record
 
 // Whether a source has the plan's sizes, and the plan's direction and cause at place i.
 #[tactic(auto, using(std::proofs::lemmas::Bool::Decides::nat_tests), unfolding(law::specs::Steps::fits))]
-fn fits_plan<S: Source>(source: &S, plan: &Plan, i: usize) -> bool
+pub(crate) fn fits_plan<S: Source>(source: &S, plan: &Plan, i: usize) -> bool
     requires { i < length (places_of plan.now) }
     ensures { result ≡ fits (shape plan.now) (S.meaning source.now) i }
 {
@@ -67,39 +71,4 @@ fn fits_plan<S: Source>(source: &S, plan: &Plan, i: usize) -> bool
     }
     let record = record_of(places[i]);
     source.place(i).is_ok_and(|other| other == record)
-}
-
-impl Loading {
-    // Loads the next place: the source's bins at their positions, or zeros where the place is lost. (Refusals are made in place, as in `finish`.)
-    #[tactic(auto, using(std::proofs::lemmas::Bool::Decides::nat_tests), unfolding(law::specs::Steps::load, law::specs::Steps::short_sums, law::specs::Steps::with_place))]
-    pub fn load<S: Source>(
-        self,
-        source: &S,
-        plan: &Plan,
-        sums: &mut [S::Sample],
-    ) -> Result<Loading, Refused<Loading>>
-        ensures { Loads S.Sample.Kind plan.now (S.meaning source.now) self sums.old result sums.new }
-    {
-        if sums.len() < plan.total() {
-            return Err(Refused {
-                back: self,
-                fault: Fault::ShortTable(Table::Sums),
-            });
-        }
-        let i = self.loaded;
-        let Some(place) = plan.places().get(i) else {
-            return Err(Refused {
-                back: self,
-                fault: Fault::AllLoaded,
-            });
-        };
-        if !fits_plan(source, plan, i) {
-            return Err(Refused {
-                back: self,
-                fault: Fault::OtherSource,
-            });
-        }
-        write_place(source, i, place.start, place.bins, sums);
-        Ok(Loading { loaded: i + 1 })
-    }
 }

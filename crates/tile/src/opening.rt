@@ -6,7 +6,8 @@ use mojette::Fault;
 use plan::Plan;
 use source::{Source, plan_of};
 
-// Fills the plan, whatever it held; refused, it leaves the plan as it was.
+/// Fills the plan, whatever it held, and gives a tile of which no place is loaded. Refuses a source that is not lawful (1 to 4),
+/// and then leaves the plan as it was.
 pub fn open<S: Source>(source: &S, plan: &mut Plan) -> Result<Loading, Fault>
     ensures { Opens (S.meaning source.now) plan.old result plan.new }
 {

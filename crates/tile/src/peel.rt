@@ -8,7 +8,7 @@ ghost use Rattle.law.specs.Positions.{incidence};
 ghost use Rattle.law.specs.Steps.{finds, world_of};
 ghost use Rattle.walk.specs.Finding.{OfTile};
 ghost use Rattle.notes.specs.Missing.{Missing, Misses, by_marks, found_in, found};
-ghost use Rattle.tile.specs.Worlds.{StillLent, held, told};
+ghost use Rattle.tile.specs.Worlds.{IsStillLent, contents, told};
 
 use crate::lent::Tables;
 use crate::ring::append;
@@ -32,12 +32,15 @@ fn take_off<K: Kind, T: Tally>(
 )
     requires at { at < bins_of (shape plan.now) }
     requires cell { cell < pixels_of (shape plan.now) }
-    requires long { LongEnough (shape plan.now) (held tables.old) }
+    requires long { LongEnough (shape plan.now) (contents tables.old) }
     requires knows { (m : Missing) × T.knows (shape plan.now) m tally.old × (m at cell ≡ true) }
-    ensures lent { StillLent tables.old tables.new }
+    ensures lent { IsStillLent tables.old tables.new }
     ensures marks { tables.new.marks.now ≡ tables.old.marks.now }
-    ensures world { world_of state.new (told T.Tally (shape plan.now) tally.new tables.new) ≡ take_off K.Kind (bins_of (shape plan.now)) v at (world_of state.old (told T.Tally (shape plan.now) tally.old tables.old)) }
-    ensures knows { (m : Missing) → T.knows (shape plan.now) m tally.old → m at cell ≡ true → T.knows (shape plan.now) (found_in at cell m) tally.new }
+    ensures world { world_of state.new (told T.Tally (shape plan.now) tally.new tables.new)
+        ≡ take_off K.Kind (bins_of (shape plan.now)) v at
+        (world_of state.old (told T.Tally (shape plan.now) tally.old tables.old)) }
+    ensures knows { (m : Missing) → T.knows (shape plan.now) m tally.old → m at cell ≡ true →
+        T.knows (shape plan.now) (found_in at cell m) tally.new }
 {
     tables.sums[at] = minus(tables.sums[at], v);
     if tally.take_off(plan, at, cell, tables.counts) {
@@ -55,12 +58,16 @@ fn take_off_all<K: Kind, T: Tally>(
     tally: &mut T,
 )
     requires pixel { OfTile (shape plan.now).P (shape plan.now).Q pixel }
-    requires long { LongEnough (shape plan.now) (held tables.old) }
-    requires knows { (m : Missing) × T.knows (shape plan.now) m tally.old × Misses (shape plan.now) m pixel.cell }
-    ensures lent { StillLent tables.old tables.new }
+    requires long { LongEnough (shape plan.now) (contents tables.old) }
+    requires knows { (m : Missing) × T.knows (shape plan.now) m tally.old
+        × Misses (shape plan.now) m pixel.cell }
+    ensures lent { IsStillLent tables.old tables.new }
     ensures marks { tables.new.marks.now ≡ tables.old.marks.now }
-    ensures world { world_of state.new (told T.Tally (shape plan.now) tally.new tables.new) ≡ take_off_all K.Kind (incidence (shape plan.now)) pixel.cell v (bins_of (shape plan.now)) (world_of state.old (told T.Tally (shape plan.now) tally.old tables.old)) }
-    ensures knows { (m : Missing) → T.knows (shape plan.now) m tally.old → Misses (shape plan.now) m pixel.cell → T.knows (shape plan.now) (found pixel.cell m) tally.new }
+    ensures world { world_of state.new (told T.Tally (shape plan.now) tally.new tables.new)
+        ≡ take_off_all K.Kind (incidence (shape plan.now)) pixel.cell v (bins_of (shape plan.now))
+        (world_of state.old (told T.Tally (shape plan.now) tally.old tables.old)) }
+    ensures knows { (m : Missing) → T.knows (shape plan.now) m tally.old →
+        Misses (shape plan.now) m pixel.cell → T.knows (shape plan.now) (found pixel.cell m) tally.new }
 {
     let places = plan.places();
     let columns = plan.columns();
@@ -84,11 +91,14 @@ pub(crate) fn peel_bin<K: Kind, T: Tally>(
     tally: &mut T,
 ) -> Option<usize>
     requires position { at < bins_of (shape plan.now) }
-    requires long { LongEnough (shape plan.now) (held tables.old) }
+    requires long { LongEnough (shape plan.now) (contents tables.old) }
     requires knows { T.knows (shape plan.now) (by_marks (shape plan.now) tables.old.marks.now) tally.old }
-    ensures lent { StillLent tables.old tables.new }
-    ensures cell { result ≡ finds K.Kind (shape plan.now) at (world_of state.old (told T.Tally (shape plan.now) tally.old tables.old)) }
-    ensures world { world_of state.new (told T.Tally (shape plan.now) tally.new tables.new) ≡ peeled K.Kind (incidence (shape plan.now)) at (world_of state.old (told T.Tally (shape plan.now) tally.old tables.old)) }
+    ensures lent { IsStillLent tables.old tables.new }
+    ensures cell { result ≡ finds K.Kind (shape plan.now) at
+        (world_of state.old (told T.Tally (shape plan.now) tally.old tables.old)) }
+    ensures world { world_of state.new (told T.Tally (shape plan.now) tally.new tables.new)
+        ≡ peeled K.Kind (incidence (shape plan.now)) at
+        (world_of state.old (told T.Tally (shape plan.now) tally.old tables.old)) }
     ensures knows { T.knows (shape plan.now) (by_marks (shape plan.now) tables.new.marks.now) tally.new }
 {
     let marks = &mut *tables.marks;

@@ -1,17 +1,13 @@
-// The ring of positions that wait: appending to it, taking from it, giving back to it.
-ghost use Rattle.std.specs.Prelude.{◌≡◌, ◌%◌, ◌<◌, ◌≤◌, length, IfErr};
+// The ring of positions that wait.
+ghost use Rattle.std.specs.Prelude.{◌≡◌, ◌%◌, ◌<◌, ◌≤◌, length};
 ghost use Rattle.peeling.specs.Steps.{appended, queue_with, take_answers, taken};
-ghost use Rattle.samples.specs.Kinds.{sum_words};
-ghost use Rattle.tile.specs.Calls.{Takes, GivesBack};
-ghost use Rattle.tile.specs.Turns.{Fronts};
+ghost use Rattle.tile.specs.Ring.{Fronts};
 
-use crate::states::{Grant, Peeling, Refused};
-use mojette::{Fault, Table};
+use mojette::Fault;
 use peeling::State;
-use plan::Plan;
 
 // n mod bins, with no division where n is below twice that. That there are bins is a clause: a number cannot say that it is a plan's.
-pub(crate) fn wrapped(n: usize, bins: usize) -> usize
+fn wrapped(n: usize, bins: usize) -> usize
     requires { 1 ≤ bins }
     ensures { result ≡ n % bins }
 {
@@ -65,59 +61,4 @@ pub(crate) fn pass_first(state: &mut State, bins: usize)
     state.head = wrapped(state.head as usize + 1, bins) as u32;
     state.waiting = state.waiting.saturating_sub(1);
     state.out = state.out.saturating_add(1);
-}
-
-impl Peeling {
-    // Grants the first position that waits. (Refusals are made in place, as in `finish`.)
-    #[tactic(auto, using(std::proofs::lemmas::Bool::Decides::nat_tests), unfolding(law::specs::Steps::take, law::specs::Steps::short_queue, peeling::specs::Steps::take_answers, peeling::specs::Steps::front, peeling::specs::Steps::taken))]
-    pub fn take(self, plan: &Plan, queue: &[u16]) -> Result<(Peeling, Grant), Refused<Peeling>>
-        ensures { Takes sum_words plan.now self queue.now result }
-    {
-        let bins = plan.total();
-        if queue.len() < bins {
-            return Err(Refused {
-                back: self,
-                fault: Fault::ShortTable(Table::Queue),
-            });
-        }
-        match first(&self.state, queue, bins) {
-            Ok(position) => {
-                let Peeling { mut state } = self;
-                pass_first(&mut state, bins);
-                Ok((Peeling { state }, Grant { position }))
-            }
-            Err(fault) => Err(Refused { back: self, fault }),
-        }
-    }
-
-    // Appends the position of a grant again. (Refusals are made in place, as in `finish`: what goes back here is two values.)
-    #[tactic(auto, using(std::proofs::lemmas::Bool::Decides::nat_tests), unfolding(law::specs::Steps::give_back, law::specs::Steps::short_queue, peeling::specs::Steps::append, peeling::specs::Steps::handed_in))]
-    pub fn give_back(
-        self,
-        grant: Grant,
-        plan: &Plan,
-        queue: &mut [u16],
-    ) -> Result<Peeling, Refused<(Peeling, Grant)>>
-        ensures step { GivesBack sum_words plan.now self grant queue.old result queue.new }
-        ensures grant { IfErr result (λ e. e.back.1 ≡ grant) }
-    {
-        let bins = plan.total();
-        if queue.len() < bins {
-            return Err(Refused {
-                back: (self, grant),
-                fault: Fault::ShortTable(Table::Queue),
-            });
-        }
-        if grant.position as usize >= bins {
-            return Err(Refused {
-                back: (self, grant),
-                fault: Fault::BadGrant,
-            });
-        }
-        let Grant { position } = grant;
-        let Peeling { mut state } = self;
-        state.out = state.out.saturating_sub(1);
-        append(&mut state, queue, bins, position as usize);
-        Ok(Peeling { state })
-    }
 }

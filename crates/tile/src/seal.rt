@@ -1,4 +1,4 @@
-// Sealing a tile whose places are all loaded, written once for every kind of sample.
+// What sealing a tile is made of, written once for every kind of sample.
 ghost use Rattle.std.specs.Prelude.{◌≡◌, ◌<◌, ◌≤◌, length};
 ghost use Rattle.mojette.specs.Meaning.{pixels_of, bins_of};
 ghost use Rattle.peeling.specs.Steps.{filled, seal as peel_seal};
@@ -7,16 +7,14 @@ ghost use Rattle.law.specs.Life.{LongEnough};
 ghost use Rattle.law.specs.Positions.{incidence};
 ghost use Rattle.law.specs.Steps.{blank, world_of};
 ghost use Rattle.notes.specs.Missing.{by_marks};
-ghost use Rattle.tile.specs.Calls.{Seals};
-ghost use Rattle.tile.specs.Outcomes.{tables};
 ghost use Rattle.tile.specs.Seals.{singles_queued, Judges, Accepts};
-ghost use Rattle.tile.specs.Worlds.{StillLent, held, told};
+ghost use Rattle.tile.specs.Worlds.{IsStillLent, contents, told};
 
 use crate::lent::Tables;
 use crate::ring::append;
-use crate::states::{Loading, Peeling, Refused};
+use crate::states::{Loading, Refused};
 use mojette::Fault;
-use notes::{Counts, Tally};
+use notes::Tally;
 use peeling::State;
 use plan::Plan;
 use samples::Kind;
@@ -40,8 +38,11 @@ fn queue_singles<T: Tally>(
     state: &mut State,
     queue: &mut [u16],
 )
-    requires { (bins_of (shape plan.now) ≤ length counts.now) × (bins_of (shape plan.now) ≤ length queue.old) }
-    ensures { (state.new, queue.new) ≡ singles_queued (bins_of (shape plan.now)) (bins_of (shape plan.now)) (T.counts_by (shape plan.now) tally.now counts.now) (state.old, queue.old) }
+    requires { (bins_of (shape plan.now) ≤ length counts.now)
+        × (bins_of (shape plan.now) ≤ length queue.old) }
+    ensures { (state.new, queue.new)
+        ≡ singles_queued (bins_of (shape plan.now)) (bins_of (shape plan.now))
+        (T.counts_by (shape plan.now) tally.now counts.now) (state.old, queue.old) }
 {
     let bins = plan.total();
     for at in 0..bins {
@@ -53,9 +54,10 @@ fn queue_singles<T: Tally>(
 
 // The accepted part: all pixels missing, each bin counted, and those with one pixel queued.
 pub(crate) fn begin<K: Kind, T: Tally>(plan: &Plan, tables: &mut Tables<K>, tally: &mut T) -> State
-    requires { LongEnough (shape plan.now) (held tables.old) }
-    ensures lent { StillLent tables.old tables.new }
-    ensures world { world_of result (told T.Tally (shape plan.now) tally.new tables.new) ≡ peel_seal K.Kind (incidence (shape plan.now)) (world_of blank (held tables.old)) }
+    requires { LongEnough (shape plan.now) (contents tables.old) }
+    ensures lent { IsStillLent tables.old tables.new }
+    ensures world { world_of result (told T.Tally (shape plan.now) tally.new tables.new)
+        ≡ peel_seal K.Kind (incidence (shape plan.now)) (world_of blank (contents tables.old)) }
     ensures knows { T.knows (shape plan.now) (by_marks (shape plan.now) tables.new.marks.now) tally.new }
 {
     let pixels = plan.pixels();
@@ -94,8 +96,9 @@ pub(crate) fn accept<K: Kind>(
     plan: &Plan,
     tables: &mut Tables<K>,
 ) -> Result<(), Refused<Loading>>
-    ensures lent { StillLent tables.old tables.new }
-    ensures accepts { Accepts K.Kind (shape plan.now) tile.loaded (held tables.old) result (held tables.new) }
+    ensures lent { IsStillLent tables.old tables.new }
+    ensures accepts { Accepts K.Kind (shape plan.now) tile (contents tables.old)
+        result (contents tables.new) }
 {
     // By hand: the closure of a `map_err` would move the state, which the steps below need.
     if let Err(fault) = tables.check(plan) {
@@ -110,31 +113,4 @@ pub(crate) fn accept<K: Kind>(
         });
     }
     judge(plan, tables.picture).map_err(|fault| Refused { back: tile, fault })
-}
-
-impl Loading {
-    // Begins the peeling where Katz's criterion holds; else the picture shows a ghost. The tables are the callers' and stay slices.
-    pub fn seal<K: Kind>(
-        self,
-        plan: &Plan,
-        picture: &mut [K],
-        marks: &mut [u8],
-        sums: &mut [K],
-        counts: &mut [u8],
-        queue: &mut [u16],
-    ) -> Result<Peeling, Refused<Loading>>
-        ensures { Seals K.Kind plan.now self (tables picture.old marks.old sums.old counts.old queue.old) result (tables picture.new marks.new sums.new counts.new queue.new) }
-    {
-        let mut tables = Tables {
-            picture,
-            marks,
-            sums,
-            counts,
-            queue,
-        };
-        accept(self, plan, &mut tables)?;
-        Ok(Peeling {
-            state: begin(plan, &mut tables, &mut Counts),
-        })
-    }
 }

@@ -1,8 +1,9 @@
 // Tiles of 2 by 2 in sum words, from open to picture.
+use crate::buffers::Buffers;
 use crate::lent::Tables;
 use crate::opening::open;
 use crate::states::{Finished, Grant, Loading, Peeling, Refused};
-use mojette::{Fault, Record, Refusal};
+use mojette::{Fault, Record};
 use peeling::State;
 use plan::Plan;
 use samples::SumWord;
@@ -34,10 +35,10 @@ fn load(
     places: usize,
     rack: &Rack<SumWord>,
     plan: &Plan,
-    sums: &mut [SumWord],
+    tables: &mut Tables<SumWord>,
 ) -> Result<Loading, Fail> {
     for _ in 0..places {
-        tile = tile.load(rack, plan, sums).ok().ok_or("load")?;
+        tile = tile.load(rack, plan, tables).ok().ok_or("load")?;
     }
     Ok(tile)
 }
@@ -50,21 +51,12 @@ fn peel(
     grants: &mut [u16],
 ) -> Result<Peeling, Fail> {
     for granted in grants.iter_mut() {
-        match tile.take(plan, tables.queue) {
+        match tile.take(plan, tables) {
             // A refused take is the good end.
             Err(refused) => return Ok(refused.back),
             Ok((next, grant)) => {
                 *granted = grant.position();
-                let settled = next.settle(
-                    grant,
-                    plan,
-                    tables.picture,
-                    tables.marks,
-                    tables.sums,
-                    tables.counts,
-                    tables.queue,
-                );
-                match settled {
+                match next.settle(grant, plan, tables) {
                     Ok((after, _)) => tile = after,
                     Err(refused) => {
                         let (_, grant) = refused.back;
@@ -82,7 +74,7 @@ fn peel(
 fn shown(
     rt: &impl Abort,
     answer: Result<Finished, Refused<Peeling>>,
-    picture: &mut [SumWord],
+    picture: &[SumWord],
 ) -> Result<[u16; 4], Fault> {
     let cells: &[SumWord] = answer?.picture(picture)?;
     assert!(rt; cells.len() == 4);
@@ -94,41 +86,18 @@ fn shown(
     ])
 }
 
-// The refusal's number and first two values, and the cells: by numbers, since the tests pin each refusal's number.
-fn told(answer: Result<[u16; 4], Fault>) -> ((usize, usize, usize), [u16; 4]) {
-    match answer {
-        Ok(cells) => ((0, 0, 0), cells),
-        Err(fault) => {
-            let refusal = Refusal::from(fault);
-            ((refusal.number, refusal.first, refusal.second), [0; 4])
-        }
-    }
-}
-
 // From open to picture, over tables that hold rubbish.
 fn rebuilt<'a>(
     rt: &impl Abort,
     records: &'a [Record],
     run: &'a [SumWord],
     grants: &mut [u16],
-) -> Result<((usize, usize, usize), [u16; 4]), Fail> {
+) -> Result<Result<[u16; 4], Fault>, Fail> {
     let rack = Rack::new(2, 2, records, run).ok().ok_or("rack")?;
     let mut plan = Plan::fresh();
     let tile = open(&rack, &mut plan).ok().ok_or("open")?;
     let (mut picture, mut sums) = ([word(9); 5], [word(9); 8]);
     let (mut marks, mut counts, mut queue) = ([9; 4], [9; 8], [9; 8]);
-    let tile = load(tile, records.len(), &rack, &plan, &mut sums)?;
-    let tile = tile
-        .seal(
-            &plan,
-            &mut picture,
-            &mut marks,
-            &mut sums,
-            &mut counts,
-            &mut queue,
-        )
-        .ok()
-        .ok_or("seal")?;
     let mut tables = Tables {
         picture: &mut picture,
         marks: &mut marks,
@@ -136,8 +105,11 @@ fn rebuilt<'a>(
         counts: &mut counts,
         queue: &mut queue,
     };
+    let tile = load(tile, records.len(), &rack, &plan, &mut tables)?;
+    let tile = tile.seal(&plan, &mut tables).ok().ok_or("seal")?;
     let tile = peel(tile, &plan, &mut tables, grants)?;
-    Ok(told(shown(rt, tile.finish(&plan, &sums), &mut picture)))
+    let finished = tile.finish(&plan, &tables);
+    Ok(shown(rt, finished, &picture))
 }
 
 #[test]
@@ -160,7 +132,7 @@ fn a_tile_is_rebuilt(rt: HostRuntime) -> Result<(), Fail> {
     let mut grants = [9; 8];
     assert_eq!(rt;
         rebuilt(&rt, &records, &run, &mut grants)?,
-        ((0, 0, 0), [1, 2, 3, 4])
+        Ok([1, 2, 3, 4])
     );
     assert_eq!(rt; grants, [0, 2, 5, 7, 6, 1, 9, 9]);
     Ok(())
@@ -173,7 +145,7 @@ fn a_tile_is_contradicted(rt: HostRuntime) -> Result<(), Fail> {
     let mut grants = [9; 8];
     assert_eq!(rt;
         rebuilt(&rt, &records, &run, &mut grants)?,
-        ((15, 1, 1), [0; 4])
+        Err(Fault::LeftOver(1, 1))
     );
     assert_eq!(rt; grants, [0, 2, 3, 5, 4, 1, 9, 9]);
     Ok(())
@@ -185,7 +157,7 @@ fn an_empty_bin_is_read(rt: HostRuntime) -> Result<(), Fail> {
     let mut grants = [9; 8];
     assert_eq!(rt;
         rebuilt(&rt, &[Record::new(3, 2, 0)], &run, &mut grants)?,
-        ((15, 0, 1), [0; 4])
+        Err(Fault::LeftOver(0, 1))
     );
     assert_eq!(rt; grants, [0, 2, 3, 5, 9, 9, 9, 9]);
     Ok(())
@@ -209,6 +181,21 @@ impl Cells {
             sums: [word(9); 8],
             counts: [9; 8],
             queue: [9; 8],
+        }
+    }
+
+    fn lend(&mut self) -> Tables<'_, SumWord> {
+        let picture = &mut self.picture;
+        let marks = &mut self.marks;
+        let sums = &mut self.sums;
+        let counts = &mut self.counts;
+        let queue = &mut self.queue;
+        Tables {
+            picture,
+            marks,
+            sums,
+            counts,
+            queue,
         }
     }
 
@@ -237,15 +224,9 @@ fn peeled_alone(
 ) -> Result<Result<Peeling, Refused<Loading>>, Fail> {
     let mut plan = Plan::fresh();
     let tile = open(rack, &mut plan).ok().ok_or("open")?;
-    let tile = load(tile, places, rack, &plan, &mut cells.sums)?;
-    Ok(tile.seal_and_peel(
-        &plan,
-        &mut cells.picture,
-        &mut cells.marks,
-        &mut cells.sums,
-        &mut cells.counts,
-        &mut cells.queue,
-    ))
+    let mut tables = cells.lend();
+    let tile = load(tile, places, rack, &plan, &mut tables)?;
+    Ok(tile.seal_and_peel(&plan, &mut tables))
 }
 
 // The same by a seal, and takes and settles until none waits.
@@ -256,25 +237,9 @@ fn peeled_by_calls(
 ) -> Result<Peeling, Fail> {
     let mut plan = Plan::fresh();
     let tile = open(rack, &mut plan).ok().ok_or("open")?;
-    let tile = load(tile, places, rack, &plan, &mut cells.sums)?;
-    let tile = tile
-        .seal(
-            &plan,
-            &mut cells.picture,
-            &mut cells.marks,
-            &mut cells.sums,
-            &mut cells.counts,
-            &mut cells.queue,
-        )
-        .ok()
-        .ok_or("seal")?;
-    let mut tables = Tables {
-        picture: &mut cells.picture,
-        marks: &mut cells.marks,
-        sums: &mut cells.sums,
-        counts: &mut cells.counts,
-        queue: &mut cells.queue,
-    };
+    let mut tables = cells.lend();
+    let tile = load(tile, places, rack, &plan, &mut tables)?;
+    let tile = tile.seal(&plan, &mut tables).ok().ok_or("seal")?;
     peel(tile, &plan, &mut tables, &mut [0; 9])
 }
 
@@ -303,12 +268,24 @@ fn one_call_shows_a_ghost(rt: HostRuntime) -> Result<(), Fail> {
     let run = [3, 7, 6, 4].map(word);
     let rack = Rack::new(2, 2, &records, &run).ok().ok_or("rack")?;
     let mut cells = Cells::new();
-    let fault = match peeled_alone(&rack, 2, &mut cells)? {
-        Ok(_) => return Err(Fail::new("peeled")),
-        Err(refused) => refused.fault,
-    };
-    let refusal = Refusal::from(fault);
-    assert_eq!(rt; (refusal.number, refusal.first, refusal.second), (9, 1, 1));
+    let answer = peeled_alone(&rack, 2, &mut cells)?;
+    assert_eq!(rt; answer.map_err(|e| e.fault).err(), Some(Fault::Ghost(1, 1)));
     assert!(rt; cells.picture == [1, 0xffff, 0xffff, 1].map(word));
+    Ok(())
+}
+
+#[test]
+fn a_tile_is_rebuilt_in_buffers(rt: HostRuntime) -> Result<(), Fail> {
+    let records = [Record::new(1, 1, 0), Record::new(-1, 1, 0)];
+    let run = [2, 5, 3, 4, 5, 1].map(word);
+    let rack = Rack::new(2, 2, &records, &run).ok().ok_or("rack")?;
+    let mut plan = Plan::fresh();
+    let tile = open(&rack, &mut plan).ok().ok_or("open")?;
+    let mut buffers = Buffers::for_plan(rt.alloc(), &plan)?;
+    let mut tables = buffers.lend();
+    let tile = load(tile, 2, &rack, &plan, &mut tables)?;
+    let tile = tile.seal_and_peel(&plan, &mut tables).ok().ok_or("peel")?;
+    let finished = tile.finish(&plan, &tables);
+    assert_eq!(rt; shown(&rt, finished, tables.picture), Ok([1, 2, 3, 4]));
     Ok(())
 }

@@ -1,5 +1,6 @@
 // A grant is given back, and a tile is finished before it shows its picture. Neither program compiles without that call:
 // tools/compile_errors.py takes it out.
+use crate::lent::Tables;
 use crate::states::{Grant, Peeling, Refused};
 use mojette::Fault;
 use plan::Plan;
@@ -8,10 +9,10 @@ use samples::SumWord;
 fn given_back(
     tile: Peeling,
     plan: &Plan,
-    queue: &mut [u16],
+    tables: &mut Tables<SumWord>,
 ) -> Result<Peeling, Refused<(Peeling, Grant)>> {
-    match tile.take(plan, queue) {
-        Ok((tile, grant)) => tile.give_back(grant, plan, queue),
+    match tile.take(plan, tables) {
+        Ok((tile, grant)) => tile.give_back(grant, plan, tables),
         Err(refused) => Ok(refused.back),
     }
 }
@@ -19,17 +20,24 @@ fn given_back(
 fn finished<'a>(
     tile: Peeling,
     plan: &Plan,
-    sums: &[SumWord],
-    picture: &'a mut [SumWord],
+    tables: &'a Tables<SumWord>,
 ) -> Result<&'a [SumWord], Fault> {
-    let tile = tile.finish(plan, sums)?;
-    tile.picture(picture)
+    let tile = tile.finish(plan, tables)?;
+    tile.picture(tables.picture)
 }
 
 #[test]
 fn a_grant_is_given_back(rt: HostRuntime) {
     let tile = Peeling::with(1, 1, 0);
-    match given_back(tile, &Plan::fresh(), &mut [0]) {
+    let word = SumWord { value: 0 };
+    let mut tables = Tables {
+        picture: &mut [word],
+        marks: &mut [0],
+        sums: &mut [word],
+        counts: &mut [0],
+        queue: &mut [0],
+    };
+    match given_back(tile, &Plan::fresh(), &mut tables) {
         Ok(tile) => assert_eq!(rt; (tile.waiting(), tile.out()), (1, 0)),
         Err(refused) => {
             let (_, grant) = refused.back;
@@ -42,8 +50,14 @@ fn a_grant_is_given_back(rt: HostRuntime) {
 #[test]
 fn a_tile_is_finished(rt: HostRuntime) {
     let tile = Peeling::with(0, 0, 0);
-    let mut picture = [SumWord { value: 7 }];
-    match finished(tile, &Plan::fresh(), &[SumWord { value: 0 }], &mut picture) {
+    let tables = Tables {
+        picture: &mut [SumWord { value: 7 }],
+        marks: &mut [0],
+        sums: &mut [SumWord { value: 0 }],
+        counts: &mut [0],
+        queue: &mut [0],
+    };
+    match finished(tile, &Plan::fresh(), &tables) {
         Ok(cells) => assert!(rt; cells == [SumWord { value: 7 }].as_slice()),
         Err(_) => panic!(rt; "refused"),
     }

@@ -2,7 +2,7 @@ use Rattle.std.proofs.Common.{Ok, Err, ap, ◌∙◌, sym, subst}
 use Rattle.peeling.specs.Steps.{taken, take_answers}
 use Rattle.plan.specs.Shapes.{shape}
 use Rattle.law.specs.Steps.{world_of}
-use Rattle.tile.specs.Turns.{Fronts}
+use Rattle.tile.specs.Ring.{Fronts}
 use Rattle.tile.specs.Worlds.{told}
 use Rattle.tile.proofs.Following.{told_long, turn_rests, turn_goes}
 use Rattle.tile.proofs.alone.turn.Goals as goal

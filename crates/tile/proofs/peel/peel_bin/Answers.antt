@@ -1,4 +1,4 @@
-use Rattle.std.proofs.Common.{◌<◌, length, set, sym, subst, arith}
+use Rattle.std.proofs.Common.{◌<◌, length, sym, subst, arith}
 use Rattle.plan.specs.Shapes.{shape}
 use Rattle.notes.specs.Missing.{by_marks}
 use Rattle.notes.proofs.Found.{missed_by_marks, found_by_marks}

@@ -1,6 +1,6 @@
-use Rattle.std.proofs.Common.{◌≡◌, ◌+◌, ◌<◌, length, sym, refl, ap, ◌∙◌, subst, arith, ◌==◌}
+use Rattle.std.proofs.Common.{◌+◌, ◌<◌, length, sym, refl, ap, ◌∙◌, subst, arith, ◌==◌}
 use Rattle.std.proofs.lemmas.Bool.{eqb-true}
-use Rattle.mojette.specs.Meaning.{bins_of, pixels_of}
+use Rattle.mojette.specs.Meaning.{bins_of}
 use Rattle.peeling.specs.Steps.{take_off_all}
 use Rattle.plan.specs.Shapes.{shape}
 use Rattle.law.specs.Positions.{incidence}
@@ -9,7 +9,7 @@ use Rattle.walk.specs.Lying.{starts}
 use Rattle.walk.proofs.Laying.{turn, all_starts}
 use Rattle.notes.specs.Missing.{found_below}
 use Rattle.notes.proofs.Found.{found_none, found_all, still_there, found_lost, found_next}
-use Rattle.tile.specs.Worlds.{StillLent, held, told}
+use Rattle.tile.specs.Worlds.{IsStillLent, told}
 use Rattle.tile.proofs.Following.{long_on, cell_inside}
 use Rattle.tile.proofs.Keeping.{same_tables, lent_on}
 use Rattle.tile.proofs.Turns.{lies_here, whole_turn, lost_turn, none_lies, next_start}
@@ -30,7 +30,7 @@ overflow_add-at g c =
     let plan = c.args.plan.now in
     let t = turn plan c.places-places.result.now c.loop-i.i c.places-places.ensures.value c.loop-i-test.true in
     let lies = lies_here plan c.places-places.result.now c.loop-i.i c.args.pixel c.start.result c.bin_of.result c.columns-columns.result c.rows-rows.result t
-    c.columns-columns.ensures c.rows-rows.ensures c.requires.pixel c.start.ensures c.bin_of.ensures.lies in
+    c.columns-columns.ensures c.rows-rows.ensures c.requires.pixel c.start.ensures.value c.bin_of.ensures.lies in
     omega (arith, lies.below, t.next, t.inside, plan.few_bins)
 
 pub take_off-requires : goal.take_off-requires
@@ -39,7 +39,7 @@ take_off-requires g c =
     let t = turn plan c.places-places.result.now c.loop-i.i c.places-places.ensures.value c.loop-i-test.true in
     let at = c.start.result + c.bin_of.result in
     let lies = lies_here plan c.places-places.result.now c.loop-i.i c.args.pixel c.start.result c.bin_of.result c.columns-columns.result c.rows-rows.result t
-    c.columns-columns.ensures c.rows-rows.ensures c.requires.pixel c.start.ensures c.bin_of.ensures.lies in
+    c.columns-columns.ensures c.rows-rows.ensures c.requires.pixel c.start.ensures.value c.bin_of.ensures.lies in
     let inside : at < bins_of (shape plan) = omega (arith, lies.below, t.next, t.inside, plan.full) in
     record {
       at = inside;
@@ -70,11 +70,11 @@ loop-i-preserved g c =
       | then-is_whole w ↦
           let at = w.start.result + w.bin_of.result in
           let lies = lies_here plan c.places-places.result.now i c.args.pixel w.start.result w.bin_of.result c.columns-columns.result c.rows-rows.result t
-          c.columns-columns.ensures c.rows-rows.ensures c.requires.pixel w.start.ensures w.bin_of.ensures.lies in
+          c.columns-columns.ensures c.rows-rows.ensures c.requires.pixel w.start.ensures.value w.bin_of.ensures.lies in
           let inside : at < bins_of s = omega (arith, lies.below, t.next, t.inside, plan.full) in
           let here = sym (ap (λ x. x.cause) t.same) ∙ eqb-true _ 0 (sym c.is_whole.ensures ∙ w.if-is_whole.true) in
           let last = w.take_off.new in record {
-            lent = lent_on c.loop-i.invariant.lent (subst (λ x. StillLent c.loop-i.tables x) (sym w.tables-is) w.take_off.ensures.lent);
+            lent = lent_on c.loop-i.invariant.lent (subst (λ x. IsStillLent c.loop-i.tables x) (sym w.tables-is) w.take_off.ensures.lent);
             marks = ap (λ x. x.marks.now) w.tables-is ∙ w.take_off.ensures.marks ∙ c.loop-i.invariant.marks;
             world = whole_turn K plan cell v first i t.known before after c.loop-i.invariant.world at lies here
                 (world_of last.state (told T s last.tally last.tables)) w.take_off.ensures.world
@@ -88,7 +88,7 @@ loop-i-preserved g c =
           }
       | else-is_whole w ↦
           let lost = sym (ap (λ x. x.cause == 0) t.same) ∙ sym c.is_whole.ensures ∙ w.if-is_whole.false in record {
-            lent = subst (λ x. StillLent c.args.tables.now x) (sym w.tables-is) c.loop-i.invariant.lent;
+            lent = subst (λ x. IsStillLent c.args.tables.now x) (sym w.tables-is) c.loop-i.invariant.lent;
             marks = ap (λ x. x.marks.now) w.tables-is ∙ c.loop-i.invariant.marks;
             world = lost_turn K plan cell v first i t.known before after c.loop-i.invariant.world lost
                 (λ j. world_of (w.state-is j) (told T s (w.tally-is j) (w.tables-is j)));

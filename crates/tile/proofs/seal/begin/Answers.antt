@@ -1,11 +1,11 @@
 use Rattle.std.proofs.Common.{sym, ap, ◌∙◌, subst}
-use Rattle.mojette.specs.Meaning.{bins_of, pixels_of}
+use Rattle.mojette.specs.Meaning.{bins_of}
 use Rattle.peeling.specs.Steps.{filled}
 use Rattle.plan.specs.Shapes.{shape}
 use Rattle.notes.specs.Missing.{by_marks}
 use Rattle.notes.proofs.Found.{all_by_marks}
 use Rattle.tile.specs.Seals.{singles_queued}
-use Rattle.tile.specs.Worlds.{held}
+use Rattle.tile.specs.Worlds.{contents}
 use Rattle.tile.proofs.Sealing.{begun}
 use Rattle.tile.proofs.seal.begin.Goals as goal
 
@@ -13,7 +13,7 @@ pub returns-clause-world : goal.returns-clause-world
 returns-clause-world g c =
     let s = shape c.args.plan.now in
     let pixels = c.pixels-pixels.ensures in
-    begun g.K.Kind s (held c.args.tables.now) c.queue_singles.new.state c.queue_singles.new.queue c.fill.new.cells c.fill-2.new.cells (g.T.Tally.counts_by s c.set_up.new.self c.set_up.new.counts)
+    begun g.K.Kind s (contents c.args.tables.now) c.queue_singles.new.state c.queue_singles.new.queue c.fill.new.cells c.fill-2.new.cells (g.T.Tally.counts_by s c.set_up.new.self c.set_up.new.counts)
     (c.queue_singles.ensures
     ∙ (λ j. singles_queued (bins_of s) (bins_of s) (g.T.Tally.counts_by s c.set_up.new.self c.set_up.new.counts) (record { head = 0; waiting = 0; out = 0; left = pixels j; settled = 0 }, c.args.tables.now.queue.now)))
     (c.fill.ensures ∙ (λ j. filled (pixels j) (λ _. c.zero_sample.ensures j) c.args.tables.now.picture.now))
