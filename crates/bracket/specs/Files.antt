@@ -5,7 +5,7 @@ use Rattle.samples.specs.declared.kind.Kind.{Ghosts as Operations}
 use Rattle.mojette.specs.declared.fault.Fault.{Fault}
 use Rattle.mojette.specs.Faults.{refusal_of, Outcome, served, refuses}
 use Rattle.mojette.specs.Meaning.{Meaning}
-use Rattle.mojette.specs.Refusals.{refusal}
+use Rattle.mojette.specs.Refusals.{unreadable_text}
 use Rattle.format.specs.Format.{Read, file, refused}
 use Rattle.bracket.specs.declared.bracket_file.BracketFile.{BracketFile}
 use Rattle.bracket.specs.Lines.{held_lines}
@@ -28,4 +28,4 @@ module _ {S : Type 0} {C : Codes S} {K : Operations S} where
 -- what is answered for a text: the meaning of a file, else where and why it is none
 abbrev pub asked_file : {S : Type 0} → Read S → Outcome (Meaning S)
 asked_file (file m) = served m
-asked_file (refused line byte why) = refuses (refusal 20 line byte why)
+asked_file (refused line byte why) = refuses (unreadable_text line byte why)

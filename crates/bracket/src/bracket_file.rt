@@ -16,5 +16,6 @@ pub struct BracketFile<'a, K: Coded> {
     pub(crate) size: Size,
     pub(crate) lines: Lines,
     pub(crate) kind: PhantomData<K>,
-    ghost read: { read_file K.Coded text.now ≡ file (meaning_from K.Kind K.Coded text.now size (held_lines lines)) },
+    ghost read: { read_file K.Coded text.now
+        ≡ file (meaning_from K.Kind K.Coded text.now size (held_lines lines)) },
 }

@@ -86,8 +86,10 @@ impl<'a> Lexer<'a> {
 
     /// The lines after the first.
     pub(crate) fn places<K: Coded>(&mut self, size: Size) -> Result<Lines, FaultInText<'a>>
-        ensures { ReadsAs (λ lines. map (place_from K.Kind K.Coded.own self.old.text.now size) (held_lines lines))
-            (λ n. places_reader K.Coded.own n size.columns size.rows None most_places) self.old result self.new }
+        ensures { ReadsAs
+            (λ lines. map (place_from K.Kind K.Coded.own self.old.text.now size) (held_lines lines))
+            (λ n. places_reader K.Coded.own n size.columns size.rows None most_places)
+            self.old result self.new }
     {
         let mut lines = Lines::new();
         let mut last = None;
@@ -103,7 +105,8 @@ impl<'a> Lexer<'a> {
 
     /// The first line of a file.
     pub(crate) fn head<K: Coded>(&mut self) -> Result<Size, FaultInText<'a>>
-        ensures { ReadsAs (λ size. (size.columns, size.rows)) (head_reader K.Coded.name) self.old result self.new }
+        ensures { ReadsAs (λ size. (size.columns, size.rows)) (head_reader K.Coded.name)
+            self.old result self.new }
     {
         self.open()?;
         self.word(b"tile")?;

@@ -3,27 +3,18 @@ ghost use Rattle.std.specs.Prelude.{◌≡◌, true, IfOk};
 ghost use Rattle.std.specs.NonZero.{non_zero_u8_get};
 ghost use Rattle.mojette.specs.Meaning.{side_ok};
 ghost use Rattle.format.specs.Format.{size_word, cause_word, p_word, q_word, bins_word, line_word, direction_reader};
-ghost use Rattle.format.specs.Readers.{accept, expect};
-ghost use Rattle.samples.specs.Names.{IsWord};
+ghost use Rattle.format.specs.Readers.{accept};
 ghost use Rattle.bracket.specs.Lexing.{Reads, ReadsAs};
 ghost use Rattle.bracket.specs.Lines.{is_bins, is_dir, start_reader};
 
 use crate::fault_in_text::FaultInText;
 use crate::lexer::Lexer;
 use crate::line::{Holding, Start};
-use crate::words::{cause_of, exactly, holding_of, p_of, q_of, side_of, start_of};
+use crate::words::{cause_of, holding_of, p_of, q_of, side_of, start_of};
 use mojette::Direction;
 use std::num::NonZeroU8;
 
 impl<'a> Lexer<'a> {
-    /// The word `want`.
-    pub(crate) fn word(&mut self, want: &[u8]) -> Result<(), FaultInText<'a>>
-        requires { IsWord want.now }
-        ensures { Reads (λ n. expect n want.now) self.old result self.new }
-    {
-        self.accept(|word| exactly(word, want))
-    }
-
     /// The columns or the rows of a tile.
     pub(crate) fn side(&mut self) -> Result<usize, FaultInText<'a>>
         ensures reads { Reads (λ n. accept n size_word) self.old result self.new }

@@ -1,7 +1,7 @@
 // Taking tokens off a text, each expected one or a fault.
 ghost use Rattle.std.specs.Prelude.{◌≡◌, ◌≤◌, [], ◌∷◌, length, not, take_while, codes as text};
 ghost use Rattle.std.specs.Fn.{FnOnceReturnsAt};
-ghost use Rattle.samples.specs.Names.{mark};
+ghost use Rattle.samples.specs.Names.{IsWord, mark};
 ghost use Rattle.samples.specs.Reading.{read_code};
 ghost use Rattle.format.specs.Format.{code_word};
 ghost use Rattle.format.specs.Readers.{accept, expect};
@@ -10,6 +10,7 @@ ghost use Rattle.bracket.specs.Lexing.{left, place, mark_of, token_len, IsToken,
 
 use crate::fault_in_text::FaultInText;
 use crate::lexer::{Lexer, Token};
+use crate::words::exactly;
 use mojette::{Reason, TextFault};
 use samples::Coded;
 use samples::codes::read_code;
@@ -96,7 +97,8 @@ impl<'a> Lexer<'a> {
         }
     }
 
-    /// The next token, which is passed.
+    /// The next token, which is passed. Inlined, so that each method below asks for its own token alone.
+    #[inline(always)]
     fn next(&mut self) -> Token<'a>
         ensures is { IsToken (place self.old) (left self.old) result }
         ensures rest { left self.new ≡ after (left self.old) }
@@ -134,6 +136,7 @@ impl<'a> Lexer<'a> {
     }
 
     /// One space.
+    #[inline(always)]
     pub(crate) fn space(&mut self) -> Result<(), FaultInText<'a>>
         ensures { Reads (λ n. expect n (text " ")) self.old result self.new }
     {
@@ -175,6 +178,18 @@ impl<'a> Lexer<'a> {
             return Err(self.fault(byte, Reason::Token));
         };
         Ok((text, byte))
+    }
+
+    /// The word `want`.
+    pub(crate) fn word(&mut self, want: &[u8]) -> Result<(), FaultInText<'a>>
+        requires { IsWord want.now }
+        ensures { Reads (λ n. expect n want.now) self.old result self.new }
+    {
+        let (word, byte) = self.take_word()?;
+        let Ok(()) = exactly(word, want) else {
+            return Err(self.fault(byte, Reason::Token));
+        };
+        Ok(())
     }
 
     /// The code of a sample: a word that is read as one.

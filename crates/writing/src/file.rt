@@ -10,14 +10,18 @@ use mojette::Fault;
 use samples::Coded;
 use source::{Source, plan_of};
 
-// The text of a source: lawfulness first, then the length that is needed. What a source is asked after that, it answers.
-// Reading what was written gives a file that answers every question as the source does.
+/// Writes the text of a source (a bracket file), and answers how many bytes it has. Lawfulness is checked
+/// first, then that the text fits, by a length that the plan gives: a refusal of too short an output tells
+/// the length that is needed. Reading what was written gives a file that answers every question as the source
+/// does.
 pub fn write_file<K: Coded, S: Source<Sample = K>>(
     source: &S,
     out: &mut [u8],
 ) -> Result<usize, Fault>
-    ensures value { (outcome result, out.new) ≡ file_filling K.Kind K.Coded.own (S.meaning source.now) out.old }
-    ensures read_back { IfOk result (λ n. AnswersAs K.Kind K.Coded.own (S.meaning source.now) (take n out.new)) }
+    ensures value { let m = S.meaning source.now in
+        (outcome result, out.new) ≡ file_filling K.Kind K.Coded.own m out.old }
+    ensures read_back { let m = S.meaning source.now in
+        IfOk result (λ n. AnswersAs K.Kind K.Coded.own m (take n out.new)) }
 {
     let plan = plan_of(source)?;
     let needed = file_len::<K>(&plan);

@@ -2,7 +2,7 @@
 ghost use Rattle.std.specs.Prelude.{◌≡◌, ◌≤◌, [], length};
 ghost use Rattle.mojette.specs.Faults.{outcome};
 ghost use Rattle.mojette.specs.Bounds.{most_places};
-ghost use Rattle.plan.specs.Laid.{records_of};
+ghost use Rattle.plan.specs.Laid.{shape_from};
 ghost use Rattle.plan.specs.Shapes.{shape};
 ghost use Rattle.format.specs.Listing.{tile_text, picture_text, ghost_text, refusal_text};
 ghost use Rattle.writing.specs.Splices.{filling, listing, most_listing, most_refusal};
@@ -22,8 +22,11 @@ fn write_tile<K: Coded>(
     picture: &[K],
 ) -> Result<usize, Fault>
     requires short { (length word.now ≤ 255) × (length places.now ≤ most_places) }
-    ensures text { (outcome result, out.new) ≡ listing size.columns size.rows picture.now (tile_text K.Kind K.Coded.own word.now size.columns size.rows (records_of places.now) picture.now) out.old }
-    ensures fits { length (tile_text K.Kind K.Coded.own word.now size.columns size.rows (records_of places.now) picture.now) ≤ most_listing }
+    ensures text { let s = shape_from size.columns size.rows places.now in
+        let text = tile_text K.Kind K.Coded.own word.now s.P s.Q s.records picture.now in
+        (outcome result, out.new) ≡ listing s.P s.Q picture.now text out.old }
+    ensures fits { let s = shape_from size.columns size.rows places.now in
+        length (tile_text K.Kind K.Coded.own word.now s.P s.Q s.records picture.now) ≤ most_listing }
 {
     let name = K::kind_name();
     let row = size.columns * (K::digits() + 1) + 6;
@@ -42,23 +45,32 @@ fn write_tile<K: Coded>(
     Ok(needed)
 }
 
-// The listing of a picture.
+/// Writes the listing of a picture, its first P·Q cells row by row, and answers how many bytes it has.
+/// Refused are a picture with fewer cells, then an output that is too short, with the length that is needed.
 pub fn write_picture<K: Coded>(out: &mut [u8], size: Size, picture: &[K]) -> Result<usize, Fault>
-    ensures text { (outcome result, out.new) ≡ listing size.columns size.rows picture.now (picture_text K.Kind K.Coded.own (record { P = size.columns; Q = size.rows; records = [] }) picture.now) out.old }
-    ensures fits { length (picture_text K.Kind K.Coded.own (record { P = size.columns; Q = size.rows; records = [] }) picture.now) ≤ most_listing }
+    ensures text { let s = shape_from size.columns size.rows [] in
+        (outcome result, out.new)
+        ≡ listing s.P s.Q picture.now (picture_text K.Kind K.Coded.own s picture.now) out.old }
+    ensures fits { let s = shape_from size.columns size.rows [] in
+        length (picture_text K.Kind K.Coded.own s picture.now) ≤ most_listing }
 {
     write_tile(out, b"picture", size, &[], picture)
 }
 
-// The listing of a ghost, with the lost places of its plan.
+/// Writes the listing of a ghost, with a line for each lost place of its plan, before its rows. It is refused
+/// as a picture is.
 pub fn write_ghost<K: Coded>(out: &mut [u8], plan: &Plan, picture: &[K]) -> Result<usize, Fault>
-    ensures text { (outcome result, out.new) ≡ listing (shape plan.now).P (shape plan.now).Q picture.now (ghost_text K.Kind K.Coded.own (shape plan.now) picture.now) out.old }
+    ensures text { let s = shape plan.now in
+        (outcome result, out.new)
+        ≡ listing s.P s.Q picture.now (ghost_text K.Kind K.Coded.own s picture.now) out.old }
     ensures fits { length (ghost_text K.Kind K.Coded.own (shape plan.now) picture.now) ≤ most_listing }
 {
     write_tile(out, b"ghost", plan.size(), plan.places(), picture)
 }
 
-// The listing of a refusal. Into a lent table and with the needed length first, which `Display` does not give.
+/// Writes the listing of a refusal: its number and its three values. Refused is only an output that is too
+/// short, with the length that is needed.
+// Into a lent table and with the needed length first, which `Display` does not give.
 pub fn write_refusal(out: &mut [u8], refusal: Refusal) -> Result<usize, Fault>
     ensures text { (outcome result, out.new) ≡ filling (refusal_text refusal) out.old }
     ensures fits { length (refusal_text refusal) ≤ most_refusal }

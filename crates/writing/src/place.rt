@@ -44,7 +44,8 @@ impl<'a> Writer<'a> {
 
     // The codes of the bins of a whole place.
     fn put_bins<K: Coded, S: Source<Sample = K>>(&mut self, source: &S, i: usize, bins: usize)
-        requires place { (i < length (S.meaning source.now).places) × (whole (place_at (S.meaning source.now) i).entry ≡ true) }
+        requires place { let m = S.meaning source.now in
+            (i < length m.places) × (whole (place_at m i).entry ≡ true) }
         requires bins { bins ≡ bins_at (S.meaning source.now) i }
         requires room { has_room self.old (codes_at K.Kind K.Coded.own (S.meaning source.now) i) }
         ensures { Writes (codes_at K.Kind K.Coded.own (S.meaning source.now) i) self.old self.new }
@@ -108,7 +109,8 @@ impl<'a> Writer<'a> {
     }
 }
 
-// How long the line of a place is. Each has 14 bytes beside its numbers and codes: `(dir`, the space before p, ` (bins` or ` (lost`, and `))` with the line end.
+// How long the line of a place is. Each has 14 bytes beside its numbers and codes: `(dir`, the space before
+// p, ` (bins` or ` (lost`, and `))` with the line end.
 fn place_len<K: Coded>(place: &Place) -> usize
     requires { place.now.bins < 2 ^ 16 }
     ensures value { IsLineLength K.Kind K.Coded.own place.now result }
@@ -124,7 +126,8 @@ fn place_len<K: Coded>(place: &Place) -> usize
     steps + held + 14
 }
 
-// How long the text of a source is, by its plan alone. Each cause is read here, so that it is seen to be a byte: a greater one is in no file.
+// How long the text of a source is, by its plan alone. Each cause is read here, so that it is seen to be a
+// byte: a greater one is in no file.
 pub(crate) fn file_len<K: Coded>(plan: &Plan) -> usize
     ensures value { IsFileLength K.Kind K.Coded.own plan.now result }
     ensures bytes { AllByRecursion (λ e. e.cause ≤ most_cause) (shape plan.now).records }

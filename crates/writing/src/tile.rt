@@ -51,8 +51,10 @@ impl<'a> Writer<'a> {
     // The lines of the rows of a picture.
     pub(crate) fn put_rows<K: Coded>(&mut self, size: Size, picture: &[K])
         requires pixels { size.columns * size.rows ≤ length picture.now }
-        requires room { has_room self.old (rows_text K.Kind K.Coded.own size.columns picture.now 0 size.rows []) }
-        ensures { Writes (rows_text K.Kind K.Coded.own size.columns picture.now 0 size.rows []) self.old self.new }
+        requires room { has_room self.old
+            (rows_text K.Kind K.Coded.own size.columns picture.now 0 size.rows []) }
+        ensures { Writes (rows_text K.Kind K.Coded.own size.columns picture.now 0 size.rows [])
+            self.old self.new }
     {
         for row in picture[..size.pixels()].chunks_exact(size.columns) {
             self.put_row(row);
@@ -69,7 +71,8 @@ pub(crate) fn head_len(word: &[u8], name: &[u8], size: Size) -> usize
     line_len(word, &[size.columns, size.rows]) + 1 + name.len()
 }
 
-// How long the lines of the lost places are. Each text is written once and measured once, since a too short output is refused before anything is written.
+// How long the lines of the lost places are. Each text is written once and measured once, since a too short
+// output is refused before anything is written.
 pub(crate) fn lost_len(places: &[Place]) -> usize
     requires { length places.now ≤ most_places }
     ensures value { result ≡ length (lost_text 0 (records_of places.now) []) }

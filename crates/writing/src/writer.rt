@@ -7,8 +7,8 @@ ghost use Rattle.writing.specs.Writers.{has_room, Writes};
 use samples::Coded;
 use samples::codes::write_code;
 
-// A table, and how many of its cells hold text. The table is the caller's slice and needs no heap, hence a length beside it. That a text fits is asked of each
-// call, since each has another text.
+// A table, and how many of its cells hold text. The table is the caller's slice and needs no heap, hence a
+// length beside it. That a text fits is asked of each call, since each has another text.
 #[derive(Drop)]
 pub(crate) struct Writer<'a> {
     table: &'a mut [u8],
@@ -52,7 +52,8 @@ impl<'a> Writer<'a> {
         }
     }
 
-    // A number. By own code: the library prints numbers into writers of its own, and a crate for it would be one more to trust.
+    // A number. By own code: the library prints numbers into writers of its own, and a crate for it would be
+    // one more to trust.
     pub(crate) fn put_decimal(&mut self, number: usize)
         requires { has_room self.old (decimal number) }
         ensures { Writes (decimal number) self.old self.new }
@@ -65,7 +66,8 @@ impl<'a> Writer<'a> {
         }
     }
 
-    // Numbers, each after a space. It is no trait's method with `put_codes`: an impl for every coded kind would overlap one for `usize`.
+    // Numbers, each after a space. It is no trait's method with `put_codes`: an impl for every coded kind
+    // would overlap one for `usize`.
     pub(crate) fn put_numbers(&mut self, numbers: &[usize])
         requires { has_room self.old (spaced decimal numbers.now) }
         ensures { Writes (spaced decimal numbers.now) self.old self.new }
