@@ -9,7 +9,7 @@ use Rattle.mojette.specs.declared.fault.Fault.{Fault}
 use Rattle.mojette.specs.declared.fault.Fault.TheVariants as faults
 use Rattle.mojette.specs.Faults.{refusal_of, Outcome}
 use Rattle.mojette.specs.Meaning.{Shape, Meaning, shape_of, pixels_of, bins_of, verdict}
-use Rattle.mojette.specs.Refusals.{Refusal}
+use Rattle.mojette.specs.Refusals.{Refusal, oversize}
 use Rattle.format.specs.Listing.{picture_text, ghost_text, refusal_text}
 use Rattle.law.specs.Law.{shown}
 use Rattle.law.specs.Steps.{Tables}
@@ -18,7 +18,7 @@ use Rattle.plan.specs.Shapes.{shape}
 use Rattle.runs.specs.Rebuilding.{Answer, refuses}
 use Rattle.runs.specs.Worker.{one_worker}
 use Rattle.writing.specs.Splices.{filling, listing}
-use Rattle.answers.specs.Tiles.{most_bins, oversize, clear_tables, answered}
+use Rattle.answers.specs.Tiles.{program_bins, clear_tables, answered}
 use Rattle.answers.specs.Answers.{listed, listing_of, judged, tile_answer}
 
 -- a tile has at most 4096 pixels
@@ -77,10 +77,10 @@ module _ {S : Type 0} (K : Operations S) (C : Codes S) (m : Meaning S) where
   unlawful_answer r e = ap (judged K C m) (sym e)
 
   module _ (lawful : verdict (shape_of m) ≡ None) where
-    pub oversize_answer : most_bins < bins_of (shape_of m) → refusal_text oversize ≡ tile_answer K C m
+    pub oversize_answer : program_bins < bins_of (shape_of m) → refusal_text oversize ≡ tile_answer K C m
     unfolding tile_answer
-    oversize_answer l = sym (ap (judged K C m) lawful ∙ cond-true (ltb most_bins (bins_of (shape_of m))) _ _ (lt-ltb most_bins (bins_of (shape_of m)) l))
+    oversize_answer l = sym (ap (judged K C m) lawful ∙ cond-true (ltb program_bins (bins_of (shape_of m))) _ _ (lt-ltb program_bins (bins_of (shape_of m)) l))
 
-    pub tile_listed : bins_of (shape_of m) ≤ most_bins → listed K C m (answered K m) ≡ tile_answer K C m
+    pub tile_listed : bins_of (shape_of m) ≤ program_bins → listed K C m (answered K m) ≡ tile_answer K C m
     unfolding tile_answer
-    tile_listed l = sym (ap (judged K C m) lawful ∙ cond-false (ltb most_bins (bins_of (shape_of m))) _ _ (le-ltb most_bins (bins_of (shape_of m)) l))
+    tile_listed l = sym (ap (judged K C m) lawful ∙ cond-false (ltb program_bins (bins_of (shape_of m))) _ _ (le-ltb program_bins (bins_of (shape_of m)) l))

@@ -11,13 +11,13 @@ use Rattle.law.specs.Steps.{Tables, short}
 use Rattle.law.proofs.Sealing.{none_short}
 use Rattle.runs.specs.Rebuilding.{Answer, Ready, Rebuilds, unlawful, too_short, ghosted, contradicted, rebuilt}
 use Rattle.runs.specs.Worker.{one_worker}
-use Rattle.answers.specs.Tiles.{most_bins, clear_tables, answered}
+use Rattle.answers.specs.Tiles.{program_bins, clear_tables, answered}
 use Rattle.answers.specs.Answers.{listed, listing_of}
 use Rattle.answers.specs.Law.{Shows}
 use Rattle.answers.specs.Law as prints
 use Rattle.answers.proofs.Listings.{listed_by}
 
-module _ {S : Type 0} (K : Operations S) (C : Codes S) (m : Meaning S) (lawful : Lawful (shape_of m)) (pixels : pixels_of (shape_of m) ≤ 4096) (bins : bins_of (shape_of m) ≤ most_bins) where
+module _ {S : Type 0} (K : Operations S) (C : Codes S) (m : Meaning S) (lawful : Lawful (shape_of m)) (pixels : pixels_of (shape_of m) ≤ 4096) (bins : bins_of (shape_of m) ≤ program_bins) where
   -- the clear tables are long enough
   roomy : LongEnough (shape_of m) (clear_tables K)
   roomy = record {

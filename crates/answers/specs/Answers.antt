@@ -8,7 +8,7 @@ use Rattle.samples.specs.contracts.impls.XorWordKind.TheImpl.{ghosts as xor_oper
 use Rattle.samples.specs.declared.coded.Coded.{Ghosts as Codes}
 use Rattle.samples.specs.declared.kind.Kind.{Ghosts as Operations}
 use Rattle.mojette.specs.Meaning.{Meaning, shape_of, verdict, bins_of}
-use Rattle.mojette.specs.Refusals.{Refusal, refusal}
+use Rattle.mojette.specs.Refusals.{Refusal, unreadable_text, oversize}
 use Rattle.format.specs.Format.{Read, file, refused, read_file}
 use Rattle.format.specs.Kinds.{pair_operations}
 use Rattle.format.specs.Listing.{picture_text, ghost_text, refusal_text}
@@ -18,7 +18,7 @@ use Rattle.runs.specs.Rebuilding.{Answer, served, refuses}
 use Rattle.bracket.specs.declared.kind_name.KindName.{KindName}
 use Rattle.bracket.specs.declared.kind_name.KindName.TheVariants.{Sum, Xor, Pair}
 use Rattle.bracket.specs.Kinds.{kind_named}
-use Rattle.answers.specs.Tiles.{most_bytes, most_bins, oversize, answered}
+use Rattle.answers.specs.Tiles.{most_bytes, program_bins, answered}
 
 module _ {S : Type 0} (K : Operations S) (C : Codes S) where
   module _ (m : Meaning S) where
@@ -30,10 +30,14 @@ module _ {S : Type 0} (K : Operations S) (C : Codes S) where
     abbrev pub listed : Answer × Tables S → List ℕ
     listed a = listing_of a.0 a.1
 
+    -- the listing of what one worker answers and leaves on clear tables
+    abbrev pub worker_listing : List ℕ
+    worker_listing = listed (answered K m)
+
     -- by the refusal of the source's shape, if there is one
     abbrev pub judged : Option Refusal → List ℕ
     judged (Some r) = refusal_text r
-    judged None = cond (nat_lt most_bins (bins_of (shape_of m))) (refusal_text oversize) (listed (answered K m))
+    judged None = cond (nat_lt program_bins (bins_of (shape_of m))) (refusal_text oversize) worker_listing
 
     -- what is printed of a tile: one worker rebuilds it on clear tables
     unfoldable pub tile_answer : List ℕ
@@ -41,7 +45,7 @@ module _ {S : Type 0} (K : Operations S) (C : Codes S) where
 
   abbrev pub read_answer : Read S → List ℕ
   read_answer (file m) = tile_answer m
-  read_answer (refused line byte why) = refusal_text (refusal 20 line byte why)
+  read_answer (refused line byte why) = refusal_text (unreadable_text line byte why)
 
   -- what is printed of a text, by the reader of one kind
   abbrev pub text_answer : List ℕ → List ℕ

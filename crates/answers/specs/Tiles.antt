@@ -2,7 +2,6 @@
 use Rattle.std.specs.Prelude.{ℕ, replicate}
 use Rattle.samples.specs.declared.kind.Kind.{Ghosts as Operations}
 use Rattle.mojette.specs.Meaning.{Meaning}
-use Rattle.mojette.specs.Refusals.{Refusal, refusal}
 use Rattle.law.specs.Steps.{Tables}
 use Rattle.runs.specs.Rebuilding.{Answer}
 use Rattle.runs.specs.Worker.{one_worker}
@@ -12,28 +11,24 @@ abbrev pub most_bytes : ℕ
 most_bytes = 65536
 
 -- the most pixels and the most bins of a tile that the program has room for
-abbrev pub most_pixels : ℕ
-most_pixels = 4096
+abbrev pub program_pixels : ℕ
+program_pixels = 4096
 
-abbrev pub most_bins : ℕ
-most_bins = 8192
+abbrev pub program_bins : ℕ
+program_bins = 8192
 
 -- the most bytes that the program has room for when it prints
 abbrev pub most_output : ℕ
 most_output = 65536
 
--- too long an input, or too many bins
-abbrev pub oversize : Refusal
-oversize = refusal 22 0 0 0
-
 -- the program's tables before it rebuilds a tile
 abbrev pub clear_tables : {S : Type 0} → Operations S → Tables S
 clear_tables K = record {
-  picture = replicate most_pixels K.zero;
-  marks = replicate most_pixels 0;
-  sums = replicate most_bins K.zero;
-  counts = replicate most_bins 0;
-  queue = replicate most_bins 0;
+  picture = replicate program_pixels K.zero;
+  marks = replicate program_pixels 0;
+  sums = replicate program_bins K.zero;
+  counts = replicate program_bins 0;
+  queue = replicate program_bins 0;
 }
 
 -- what the worker answers, and what the tables hold then

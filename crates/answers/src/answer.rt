@@ -10,17 +10,17 @@ ghost use Rattle.format.specs.Kinds.{pair_operations};
 ghost use Rattle.writing.specs.Splices.{filling};
 ghost use Rattle.answers.specs.Answers.{text_answer, program_answer};
 ghost use Rattle.answers.specs.Law.{Prints, Answers};
-ghost use Rattle.answers.specs.Tiles.{most_pixels, most_bins, most_output};
+ghost use Rattle.answers.specs.Tiles.{program_pixels, program_bins, most_output};
 
-use crate::show::{MOST_BINS, MOST_PIXELS, show};
+use crate::show::{PROGRAM_BINS, PROGRAM_PIXELS, show};
 use bracket::{BracketFile, KindName, kind_of};
 use mojette::{Fault, Refusal};
 use samples::{Coded, Kind, Pair, SumWord, XorWord};
 use writing::listing::write_refusal;
 
-// The most bytes of an input.
+/// The most bytes of an input: a longer one is refused.
 pub const MOST_BYTES: usize = 65_536;
-// Room for every answer: the longest is the ghost of a tile of 64 by 64 pairs.
+/// Bytes with room for every answer: the longest is the ghost of a tile of 64 by 64 pairs.
 pub const MOST_OUTPUT: usize = 65_536;
 
 // What is printed of a text by the reader of one kind.
@@ -30,8 +30,8 @@ fn answer_as<K: Coded>(
     sums: &mut [K],
     out: &mut [u8],
 ) -> Result<usize, Fault>
-    requires picture { picture.old ≡ replicate most_pixels K.Kind.zero }
-    requires sums { sums.old ≡ replicate most_bins K.Kind.zero }
+    requires picture { picture.old ≡ replicate program_pixels K.Kind.zero }
+    requires sums { sums.old ≡ replicate program_bins K.Kind.zero }
     ensures text { (outcome result, out.new) ≡ filling (text_answer K.Kind K.Coded.own text.now) out.old }
     ensures fits { length (text_answer K.Kind K.Coded.own text.now) ≤ most_output }
     ensures law { Prints K.Kind K.Coded.own text.now (text_answer K.Kind K.Coded.own text.now) }
@@ -44,39 +44,47 @@ fn answer_as<K: Coded>(
 
 // The same for sum words.
 fn answer_sums(text: &[u8], out: &mut [u8]) -> Result<usize, Fault>
-    ensures text { (outcome result, out.new) ≡ filling (text_answer sum_operations sum_codes text.now) out.old }
+    ensures text { (outcome result, out.new)
+        ≡ filling (text_answer sum_operations sum_codes text.now) out.old }
     ensures fits { length (text_answer sum_operations sum_codes text.now) ≤ most_output }
-    ensures law { Prints sum_operations sum_codes text.now (text_answer sum_operations sum_codes text.now) }
+    ensures law { Prints sum_operations sum_codes text.now
+        (text_answer sum_operations sum_codes text.now) }
 {
     let zero = SumWord::zero_sample();
-    let (mut picture, mut sums) = ([zero; MOST_PIXELS], [zero; MOST_BINS]);
+    let (mut picture, mut sums) = ([zero; PROGRAM_PIXELS], [zero; PROGRAM_BINS]);
     answer_as(text, &mut picture, &mut sums, out)
 }
 
 // The same for XOR words.
 fn answer_xors(text: &[u8], out: &mut [u8]) -> Result<usize, Fault>
-    ensures text { (outcome result, out.new) ≡ filling (text_answer xor_operations xor_codes text.now) out.old }
+    ensures text { (outcome result, out.new)
+        ≡ filling (text_answer xor_operations xor_codes text.now) out.old }
     ensures fits { length (text_answer xor_operations xor_codes text.now) ≤ most_output }
-    ensures law { Prints xor_operations xor_codes text.now (text_answer xor_operations xor_codes text.now) }
+    ensures law { Prints xor_operations xor_codes text.now
+        (text_answer xor_operations xor_codes text.now) }
 {
     let zero = XorWord::zero_sample();
-    let (mut picture, mut sums) = ([zero; MOST_PIXELS], [zero; MOST_BINS]);
+    let (mut picture, mut sums) = ([zero; PROGRAM_PIXELS], [zero; PROGRAM_BINS]);
     answer_as(text, &mut picture, &mut sums, out)
 }
 
 // The same for pairs.
 fn answer_pairs(text: &[u8], out: &mut [u8]) -> Result<usize, Fault>
-    ensures text { (outcome result, out.new) ≡ filling (text_answer pair_operations pair_codes text.now) out.old }
+    ensures text { (outcome result, out.new)
+        ≡ filling (text_answer pair_operations pair_codes text.now) out.old }
     ensures fits { length (text_answer pair_operations pair_codes text.now) ≤ most_output }
-    ensures law { Prints pair_operations pair_codes text.now (text_answer pair_operations pair_codes text.now) }
+    ensures law { Prints pair_operations pair_codes text.now
+        (text_answer pair_operations pair_codes text.now) }
 {
     let zero = Pair::<SumWord, XorWord>::zero_sample();
-    let (mut picture, mut sums) = ([zero; MOST_PIXELS], [zero; MOST_BINS]);
+    let (mut picture, mut sums) = ([zero; PROGRAM_PIXELS], [zero; PROGRAM_BINS]);
     answer_as(text, &mut picture, &mut sums, out)
 }
 
-// Writes what the program prints for an input, of any content and length, and answers how many bytes that is. An output too short for it is refused,
-// which one of `MOST_OUTPUT` bytes never is. Where a text names no kind, any reader tells why.
+/// Writes what the program prints for an input, of any content and length, and answers how many bytes that
+/// is. An output too short for it is refused, which one of `MOST_OUTPUT` bytes never is. What is wrong with
+/// the input is no error of this call: it is what the program prints. Where a text names no kind, any reader
+/// tells why.
 pub fn answer(text: &[u8], out: &mut [u8]) -> Result<usize, Fault>
     ensures text { (outcome result, out.new) ≡ filling (program_answer text.now) out.old }
     ensures fits { length (program_answer text.now) ≤ most_output }

@@ -2,3 +2,4 @@ pub mod Asked
 pub mod Beyond
 pub mod Loads
 pub mod Refusals
+mod Lent

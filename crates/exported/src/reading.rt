@@ -1,15 +1,14 @@
 // Reading a bracket file of sum words.
-ghost use Rattle.std.specs.Prelude.{◌≡◌, ◌≤◌, length, take, drop};
+ghost use Rattle.std.specs.Prelude.{◌≡◌, ◌≤◌, length, take, drop, IfOk};
 ghost use Rattle.samples.specs.contracts.codes.SumWordCoded.TheImpl.{ghosts as sum_codes};
 ghost use Rattle.samples.specs.contracts.impls.SumWordKind.TheImpl.{ghosts as sum_operations};
+ghost use Rattle.mojette.specs.Bounds.{most_positions};
 ghost use Rattle.mojette.specs.Faults.{outcome};
 ghost use Rattle.mojette.specs.Meaning.{shape_of, bins_of};
 ghost use Rattle.plan.specs.Shapes.{shape};
-ghost use Rattle.tile.specs.States.{loaded_in};
-ghost use Rattle.format.specs.Format.{read_file};
 ghost use Rattle.format.specs.Laws.{OneText};
-ghost use Rattle.bracket.specs.Files.{asked_file, file_meaning};
-ghost use Rattle.exported.specs.Reading.{describing, laid, loading, MeansTheFile};
+ghost use Rattle.bracket.specs.Files.{file_meaning};
+ghost use Rattle.exported.specs.Reading.{text_meaning, describing, laid, loading, MeansTheFile};
 ghost use Rattle.exported.specs.Told.{told};
 
 use crate::told::tell;
@@ -18,7 +17,7 @@ use mojette::{Fault, Record, Refusal, Table};
 use plan::Plan;
 use samples::SumWord;
 use source::{Sizes, Source};
-use tile::{Loading, open};
+use tile::{Loading, Tables, open};
 
 // Writes the records of the places, of which there are as many as cells.
 fn write_records(file: &BracketFile<SumWord>, records: &mut [Record])
@@ -35,9 +34,9 @@ fn write_records(file: &BracketFile<SumWord>, records: &mut [Record])
 
 // Reads a file, and writes its sizes and the records of its places. Answers how many places it has.
 fn describe(text: &[u8], sizes: &mut Sizes, records: &mut [Record]) -> Result<usize, Fault>
-    ensures answer { outcome result ≡ (describing (asked_file (read_file sum_codes text.now)) sizes.old records.old).answer }
-    ensures sizes { sizes.new ≡ (describing (asked_file (read_file sum_codes text.now)) sizes.old records.old).sizes }
-    ensures records { records.new ≡ (describing (asked_file (read_file sum_codes text.now)) sizes.old records.old).records }
+    ensures answer { outcome result ≡ (describing (text_meaning text.now) sizes.old records.old).answer }
+    ensures sizes { sizes.new ≡ (describing (text_meaning text.now) sizes.old records.old).sizes }
+    ensures records { records.new ≡ (describing (text_meaning text.now) sizes.old records.old).records }
 {
     let file = BracketFile::<SumWord>::read(text)?;
     let read = file.sizes();
@@ -57,11 +56,11 @@ pub extern "C" fn mojette_read(
     records: &mut [Record],
     refusal: &mut Refusal,
 ) -> usize
-    ensures answer { let left = describing (asked_file (read_file sum_codes text.now)) sizes.old records.old in
+    ensures answer { let left = describing (text_meaning text.now) sizes.old records.old in
         (result, refusal.new) ≡ told left.answer }
-    ensures sizes { let left = describing (asked_file (read_file sum_codes text.now)) sizes.old records.old in
+    ensures sizes { let left = describing (text_meaning text.now) sizes.old records.old in
         sizes.new ≡ left.sizes }
-    ensures records { let left = describing (asked_file (read_file sum_codes text.now)) sizes.old records.old in
+    ensures records { let left = describing (text_meaning text.now) sizes.old records.old in
         records.new ≡ left.records }
 {
     let answer = describe(text, sizes, records);
@@ -71,12 +70,20 @@ pub extern "C" fn mojette_read(
 // Loads every place of a file.
 fn load_all(mut tile: Loading, file: &BracketFile<SumWord>, plan: &Plan, sums: &mut [SumWord])
     requires own { shape plan.now ≡ shape_of (file_meaning file.now) }
-    requires none { loaded_in tile ≡ 0 }
+    requires none { tile ≡ 0 }
     requires room { bins_of (shape plan.now) ≤ length sums.old }
     ensures { sums.new ≡ laid (file_meaning file.now) (length (file_meaning file.now).places) sums.old }
 {
+    // A load looks at the sums alone.
+    let mut tables = Tables {
+        picture: &mut [],
+        marks: &mut [],
+        sums,
+        counts: &mut [],
+        queue: &mut [],
+    };
     for _ in 0..plan.count() {
-        let Ok(next) = tile.load(file, plan, sums) else {
+        let Ok(next) = tile.load(file, plan, &mut tables) else {
             unreachable()
         };
         tile = next;
@@ -85,8 +92,9 @@ fn load_all(mut tile: Loading, file: &BracketFile<SumWord>, plan: &Plan, sums: &
 
 // Reads a file, and asks it for the bins of all its places. Answers how many there are.
 fn load_file(text: &[u8], sums: &mut [SumWord]) -> Result<usize, Fault>
-    ensures answer { outcome result ≡ (loading (asked_file (read_file sum_codes text.now)) sums.old).answer }
-    ensures sums { sums.new ≡ (loading (asked_file (read_file sum_codes text.now)) sums.old).sums }
+    ensures answer { outcome result ≡ (loading (text_meaning text.now) sums.old).answer }
+    ensures sums { sums.new ≡ (loading (text_meaning text.now) sums.old).sums }
+    ensures few { IfOk result (λ bins. bins ≤ most_positions) }
     ensures law { OneText sum_operations sum_codes }
 {
     let file = BracketFile::<SumWord>::read(text)?;
@@ -102,11 +110,12 @@ fn load_file(text: &[u8], sums: &mut [SumWord]) -> Result<usize, Fault>
 /// Reads a file, and writes the sums of all its places, in order of position, with zeros for a lost place. Answers how many there are.
 #[unsafe(no_mangle)]
 pub extern "C" fn mojette_ask(text: &[u8], sums: &mut [SumWord], refusal: &mut Refusal) -> usize
-    ensures answer { (result, refusal.new) ≡ told (loading (asked_file (read_file sum_codes text.now)) sums.old).answer }
-    ensures sums { sums.new ≡ (loading (asked_file (read_file sum_codes text.now)) sums.old).sums }
+    ensures answer { (result, refusal.new) ≡ told (loading (text_meaning text.now) sums.old).answer }
+    ensures sums { sums.new ≡ (loading (text_meaning text.now) sums.old).sums }
+    ensures few { result ≤ most_positions }
     ensures beyond { drop result sums.new ≡ drop result sums.old }
     // Served, they are the run of a rack that means what the file means.
-    ensures rack { refusal.new.number ≡ 0 → MeansTheFile (asked_file (read_file sum_codes text.now)) (take result sums.new) }
+    ensures rack { refusal.new.number ≡ 0 → MeansTheFile (text_meaning text.now) (take result sums.new) }
 {
     let answer = load_file(text, sums);
     tell(answer, refusal)

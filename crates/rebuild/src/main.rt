@@ -1,6 +1,7 @@
 // Reads a bracket file on standard input, rebuilds its tile, and prints the listing: of the picture, of a ghost, or of a refusal.
 #![tactic(auto)]
 
+mod failure;
 mod streams;
 #[cfg(test)]
 mod tests;
@@ -8,5 +9,5 @@ mod tests;
 use std::io;
 
 fn main(rt: HostRuntime) -> io::Result<()> {
-    streams::run(rt.alloc(), rt.stdin(), &mut rt.stdout())
+    Ok(streams::run(rt.alloc(), rt.stdin(), &mut rt.stdout())?)
 }

@@ -1,4 +1,5 @@
 // Streams that fail, or give and take few bytes at a time.
+use crate::failure::Failure;
 use crate::streams::run;
 use std::io;
 use std::io::{ErrorKind, Read, Write};
@@ -56,13 +57,15 @@ fn a_writer_that_fails_has_a_first_part(rt: HostRuntime) {
         room: 10,
         taken: Vec::new(rt.alloc()),
     };
-    assert!(rt; run(rt.alloc(), TEXT, &mut writer).is_err());
+    let answer = run(rt.alloc(), TEXT, &mut writer);
+    assert!(rt; matches!(answer, Err(Failure::Write(_))));
     assert!(rt; writer.taken.as_slice() == &PICTURE[..10]);
 }
 
 #[test]
 fn a_reader_that_fails_is_answered_with_nothing(rt: HostRuntime) {
     let mut written = Vec::new(rt.alloc());
-    assert!(rt; run(rt.alloc(), Broken, &mut written).is_err());
+    let answer = run(rt.alloc(), Broken, &mut written);
+    assert!(rt; matches!(answer, Err(Failure::Read(_))));
     assert!(rt; written.is_empty());
 }

@@ -1,13 +1,13 @@
 // Projects a small picture, drops recorders, and rebuilds the picture from what is left.
 #![tactic(auto)]
 
-use mojette::{Direction, Fault, Record, Refusal};
-use plan::Plan;
+use mojette::{Direction, Fault, MOST_BINS, Record, Refusal};
 use plan::project::project;
 use runs::rebuild::rebuild;
 use samples::SumWord;
-use source::Rack;
+use source::{Rack, plan_of};
 use std::fmt::Write;
+use tile::Buffers;
 
 const COLUMNS: usize = 6;
 
@@ -28,8 +28,6 @@ const DIRECTIONS: [Direction; PLACES] = [
     Direction { p: -1, q: 1 },
     Direction { p: -2, q: 1 },
 ];
-// All bins of the five directions.
-const BINS: usize = 40;
 
 const ZERO: SumWord = SumWord { value: 0 };
 
@@ -65,10 +63,10 @@ fn show_refusal(rt: &HostRuntime, fault: Fault) -> anyhow::Result<()> {
 fn record_all(rt: &HostRuntime, cells: &[SumWord]) -> anyhow::Result<Vec<SumWord>> {
     let mut run = Vec::new(rt.alloc());
     for direction in DIRECTIONS {
-        let mut sums = [ZERO; BINS];
+        let mut sums = [ZERO; MOST_BINS];
         match project(COLUMNS, ROWS, direction, cells, &mut sums) {
             Ok(bins) => {
-                let sums = &sums[..bins.min(BINS)];
+                let sums = &sums[..bins];
                 // In the words of mathematics; no other place prints a direction so.
                 let Direction { p, q } = direction;
                 let name = format!(in rt.alloc(); "({p}, {q}):")?;
@@ -88,22 +86,16 @@ fn rebuild_from(rt: &HostRuntime, records: &[Record], run: &[SumWord]) -> anyhow
         // It is printed, and the rehearsal goes on.
         Err(fault) => return show_refusal(rt, fault),
     };
-    let mut plan = Plan::fresh();
-    let (mut cells, mut sums) = ([ZERO; CELLS], [ZERO; BINS]);
-    let (mut marks, mut counts, mut queue) = ([0; CELLS], [0; BINS], [0; BINS]);
-    let answer = rebuild(
-        &rack,
-        &mut plan,
-        &mut cells,
-        &mut marks,
-        &mut sums,
-        &mut counts,
-        &mut queue,
-    );
-    if let Err(fault) = answer {
+    let mut plan = match plan_of(&rack) {
+        Ok(plan) => plan,
+        Err(fault) => return show_refusal(rt, fault),
+    };
+    let mut buffers = Buffers::for_plan(rt.alloc(), &plan)?;
+    let mut tables = buffers.lend();
+    if let Err(fault) = rebuild(&rack, &mut plan, &mut tables) {
         show_refusal(rt, fault)?;
     }
-    show_rows(rt, &cells)
+    show_rows(rt, tables.picture)
 }
 
 // Rebuilds the picture where places are lost for these causes, and whole for cause 0.

@@ -26,17 +26,17 @@ struct Bench<K> {
 impl<K: Coded> Bench<K> {
     fn play(&mut self, turn: Turn, slots: &mut Slots) -> Result<Answer, Failure> {
         let tile = replace(self.stages.of_mut(turn.tile), Stage::Fresh);
-        let tables = self.stores.of_mut(turn.tables).lend(turn.cut);
+        let mut tables = self.stores.of_mut(turn.tables).lend(turn.cut);
         let plan = self.plans.of_mut(turn.plan);
         let (next, answer) = match turn.call {
             Call::Open(source) => tile.open(&self.contents.of(source).rack()?, plan),
-            Call::Load(source) => tile.load(&self.contents.of(source).rack()?, plan, tables),
-            Call::Seal => tile.seal(plan, tables),
-            Call::Take(slot) => tile.take(plan, tables, slots.at(slot)?),
-            Call::Settle(slot) => tile.settle(plan, tables, slots.at(slot)?),
-            Call::GiveBack(slot) => tile.give_back(plan, tables, slots.at(slot)?),
-            Call::Finish => tile.finish(plan, tables),
-            Call::Picture => tile.picture(tables),
+            Call::Load(source) => tile.load(&self.contents.of(source).rack()?, plan, &mut tables),
+            Call::Seal => tile.seal(plan, &mut tables),
+            Call::Take(slot) => tile.take(plan, &tables, slots.at(slot)?),
+            Call::Settle(slot) => tile.settle(plan, &mut tables, slots.at(slot)?),
+            Call::GiveBack(slot) => tile.give_back(plan, &mut tables, slots.at(slot)?),
+            Call::Finish => tile.finish(plan, &tables),
+            Call::Picture => tile.picture(&tables),
             Call::Poke(table, cell, number) => {
                 poke(tables, table, cell, number);
                 (tile, Ok(Answer::Done))

@@ -2,28 +2,34 @@
 ghost use Rattle.std.specs.Prelude.{◌≡◌, ◌<◌, None};
 ghost use Rattle.mojette.specs.Meaning.{bins_of};
 ghost use Rattle.plan.specs.Shapes.{shape};
-ghost use Rattle.tile.specs.Outcomes.{position_of};
 
 use anyhow::Context;
-use mojette::Record;
+use mojette::{MOST_POSITIONS, Record};
 use plan::Plan;
 use samples::SumWord;
 use source::Rack;
-use tile::{Grant, Peeling, open};
+use tile::{Grant, Peeling, Tables, open};
 
 // A grant that a worker holds, and the plan on which it was granted.
 pub struct Held {
     pub grant: Grant,
     pub plan: Plan,
-    ghost inside: { position_of grant < bins_of (shape plan) },
+    ghost inside: { grant < bins_of (shape plan) },
 }
 
 impl Held {
     // On the plan of its take a grant can always be given back, to any tile.
     fn give_back(self, tile: Peeling) -> Peeling {
         let Held { grant, plan } = self;
-        let mut queue = [0; 65_536];
-        match tile.give_back(grant, &plan, &mut queue[..plan.total()]) {
+        let mut queue = [0; MOST_POSITIONS];
+        let mut tables = Tables::<SumWord> {
+            picture: &mut [],
+            marks: &mut [],
+            sums: &mut [],
+            counts: &mut [],
+            queue: &mut queue,
+        };
+        match tile.give_back(grant, &plan, &mut tables) {
             Ok(tile) => tile,
             Err(_held) => unreachable(),
         }
@@ -43,7 +49,9 @@ impl Slots {
     }
 
     pub fn at(&mut self, slot: usize) -> anyhow::Result<&mut Option<Held>> {
-        self.cells.get_mut(slot).context("no such slot")
+        let cells = &mut self.cells;
+        let slots = &mut cells[..];
+        slots.get_mut(slot).context("no such slot")
     }
 
     pub fn are_empty(&self) -> bool {
@@ -58,7 +66,7 @@ impl Slots {
         let tile = given_back(first, tile);
         let tile = given_back(second, tile);
         let tile = given_back(third, tile);
-        given_back(fourth, tile);
+        let _ = given_back(fourth, tile);
     }
 }
 
@@ -76,19 +84,18 @@ pub fn spare_tile() -> Option<Peeling> {
     let run = [zero];
     let rack = Rack::new(1, 1, &records, &run).ok()?;
     let mut plan = Plan::fresh();
-    let mut sums = [zero];
+    let (mut picture, mut marks, mut sums) = ([zero], [0], [zero]);
+    let (mut counts, mut queue) = ([0], [0]);
+    let mut tables = Tables {
+        picture: &mut picture,
+        marks: &mut marks,
+        sums: &mut sums,
+        counts: &mut counts,
+        queue: &mut queue,
+    };
     let tile = open(&rack, &mut plan).ok()?;
-    let tile = tile.load(&rack, &plan, &mut sums).ok()?;
-    let (mut picture, mut marks, mut counts, mut queue) = ([zero], [0], [0], [0]);
-    tile.seal(
-        &plan,
-        &mut picture,
-        &mut marks,
-        &mut sums,
-        &mut counts,
-        &mut queue,
-    )
-    .ok()
+    let tile = tile.load(&rack, &plan, &mut tables).ok()?;
+    tile.seal(&plan, &mut tables).ok()
 }
 
 // Puts a grant into an empty slot.

@@ -2,7 +2,6 @@
 ghost use Rattle.std.specs.Prelude.{◌≡◌, ◌<◌, None};
 ghost use Rattle.mojette.specs.Meaning.{bins_of};
 ghost use Rattle.plan.specs.Shapes.{shape};
-ghost use Rattle.tile.specs.Outcomes.{position_of};
 
 use crate::checksum::Checksum;
 use crate::shows::Failure;
@@ -74,42 +73,39 @@ impl Stage {
         }
     }
 
-    pub fn load<K: Coded>(self, source: &Rack<K>, plan: &Plan, tables: Tables<K>) -> Played {
+    pub fn load<K: Coded>(self, source: &Rack<K>, plan: &Plan, tables: &mut Tables<K>) -> Played {
         let Stage::Loading(tile) = self else {
             return misplaced("not loading");
         };
-        match tile.load(source, plan, tables.sums) {
+        match tile.load(source, plan, tables) {
             Ok(tile) => (Stage::Loading(tile), Ok(Answer::Done)),
             Err(refusal) => refused(Stage::Loading(refusal.back), refusal.fault),
         }
     }
 
-    pub fn seal<K: Coded>(self, plan: &Plan, tables: Tables<K>) -> Played {
+    pub fn seal<K: Coded>(self, plan: &Plan, tables: &mut Tables<K>) -> Played {
         let Stage::Loading(tile) = self else {
             return misplaced("not loading");
         };
-        let Tables {
-            picture,
-            marks,
-            sums,
-            counts,
-            queue,
-        } = tables;
-        let sealed = tile.seal(plan, picture, marks, sums, counts, queue);
-        match sealed {
+        match tile.seal(plan, tables) {
             Ok(tile) => (Stage::Peeling(tile), Ok(Answer::Done)),
             Err(refusal) => refused(Stage::Loading(refusal.back), refusal.fault),
         }
     }
 
-    pub fn take<K: Coded>(self, plan: &Plan, tables: Tables<K>, slot: &mut Option<Held>) -> Played {
+    pub fn take<K: Coded>(
+        self,
+        plan: &Plan,
+        tables: &Tables<K>,
+        slot: &mut Option<Held>,
+    ) -> Played {
         let Stage::Peeling(tile) = self else {
             return misplaced("not peeling");
         };
         if slot.is_some() {
             return misplaced("the slot is not empty");
         }
-        match tile.take(plan, tables.queue) {
+        match tile.take(plan, tables) {
             Ok((tile, grant)) => {
                 let position = grant.position();
                 let plan = *plan;
@@ -123,7 +119,7 @@ impl Stage {
     pub fn settle<K: Coded>(
         self,
         plan: &Plan,
-        tables: Tables<K>,
+        tables: &mut Tables<K>,
         slot: &mut Option<Held>,
     ) -> Played {
         let Stage::Peeling(tile) = self else {
@@ -132,16 +128,11 @@ impl Stage {
         let Some(Held { grant, plan: own }) = slot.take() else {
             return misplaced("the slot is empty");
         };
-        let Tables {
-            picture,
-            marks,
-            sums,
-            counts,
-            queue,
-        } = tables;
-        let settled = tile.settle(grant, plan, picture, marks, sums, counts, queue);
-        match settled {
-            Ok((tile, (cell, left))) => (Stage::Peeling(tile), Ok(Answer::Settled(cell, left))),
+        match tile.settle(grant, plan, tables) {
+            Ok((tile, found)) => {
+                let (cell, left) = found;
+                (Stage::Peeling(tile), Ok(Answer::Settled(cell, left)))
+            }
             Err(refusal) => kept(refusal, own, slot),
         }
     }
@@ -149,7 +140,7 @@ impl Stage {
     pub fn give_back<K: Coded>(
         self,
         plan: &Plan,
-        tables: Tables<K>,
+        tables: &mut Tables<K>,
         slot: &mut Option<Held>,
     ) -> Played {
         let Stage::Peeling(tile) = self else {
@@ -158,24 +149,23 @@ impl Stage {
         let Some(Held { grant, plan: own }) = slot.take() else {
             return misplaced("the slot is empty");
         };
-        match tile.give_back(grant, plan, tables.queue) {
+        match tile.give_back(grant, plan, tables) {
             Ok(tile) => (Stage::Peeling(tile), Ok(Answer::Done)),
             Err(refusal) => kept(refusal, own, slot),
         }
     }
 
-    pub fn finish<K: Coded>(self, plan: &Plan, tables: Tables<K>) -> Played {
+    pub fn finish<K: Coded>(self, plan: &Plan, tables: &Tables<K>) -> Played {
         let Stage::Peeling(tile) = self else {
             return misplaced("not peeling");
         };
-        let sums = &mut *tables.sums;
-        match tile.finish(plan, sums) {
+        match tile.finish(plan, tables) {
             Ok(tile) => (Stage::Finished(tile), Ok(Answer::Done)),
             Err(refusal) => refused(Stage::Peeling(refusal.back), refusal.fault),
         }
     }
 
-    pub fn picture<K: Coded>(self, tables: Tables<K>) -> Played {
+    pub fn picture<K: Coded>(self, tables: &Tables<K>) -> Played {
         let Stage::Finished(tile) = self else {
             return misplaced("not finished");
         };
@@ -193,7 +183,7 @@ impl Stage {
 
 // Refused, the grant goes back to its slot.
 fn kept(refusal: Refused<(Peeling, Grant)>, plan: Plan, slot: &mut Option<Held>) -> Played
-    requires inside { position_of refusal.back.1 < bins_of (shape plan) }
+    requires inside { refusal.back.1 < bins_of (shape plan) }
     requires empty { slot.old ≡ None }
 {
     let Refused {

@@ -1,11 +1,13 @@
-use Rattle.std.proofs.Common.{◌≡◌, take, drop, ap, sym, subst, ◌∙◌}
+use Rattle.std.proofs.Common.{◌≡◌, ◌≤◌, take, drop, ap, sym, subst, ◌∙◌}
 use Rattle.samples.specs.contracts.codes.SumWordCoded.TheImpl.{ghosts as sum_codes}
+use Rattle.mojette.specs.Bounds.{most_positions}
 use Rattle.format.specs.Format.{read_file}
 use Rattle.bracket.specs.Files.{asked_file}
 use Rattle.exported.specs.Reading.{loading, MeansTheFile}
 use Rattle.exported.specs.Told.{told}
 use Rattle.exported.proofs.Asked.{asked_rack}
 use Rattle.exported.proofs.Beyond.{asking_leaves}
+use Rattle.exported.proofs.Refusals.{told_few}
 use Rattle.exported.proofs.reading.mojette_ask.Goals as goal
 
 pub returns-clause-beyond : goal.returns-clause-beyond
@@ -25,3 +27,6 @@ returns-clause-rack c = λ no_refusal.
     ap (λ n. take n c.load_file-answer.new.sums) (ap (λ a. a.0) so) ∙ ap (take (told left.answer).0) c.load_file-answer.ensures.sums in
     subst (MeansTheFile made) (sym run)
     (asked_rack c.args.text.now c.load_file-answer.ensures.law c.args.sums.now (sym (ap (λ a. a.1.number) so) ∙ no_refusal))
+
+pub returns-clause-few : goal.returns-clause-few
+returns-clause-few c = subst (λ n. n ≤ most_positions) (sym (ap (λ a. a.0) c.tell.ensures)) (told_few c.load_file-answer.result most_positions c.load_file-answer.ensures.few)

@@ -1,12 +1,11 @@
 use Rattle.std.proofs.Common.{◌≡◌, IfSome, take, ℕ, ◌<◌, ◌≤◌, List, length, Option, None, Some, sym, ap, ◌∙◌, subst, ⊎_elim, ltb, arith}
 use Rattle.std.proofs.lemmas.Bool.{cases_lt, cond-true, lt-ltb}
 use Rattle.std.proofs.lemmas.List.{length-take-le, take_all}
-use Rattle.std.proofs.lemmas.Result.{on_ok_weaker, on_err_weaker}
 use Rattle.std.specs.Io.KnownBytes.{Appends}
 use Rattle.format.specs.Listing.{refusal_text}
 use Rattle.bracket.specs.Kinds.{kind_named}
+use Rattle.mojette.specs.Refusals.{oversize}
 use Rattle.answers.specs.Answers.{program_answer, answer_as}
-use Rattle.answers.specs.Tiles.{oversize}
 use Rattle.rebuild.specs.Fronts.{AppendsFront}
 use Rattle.rebuild.proofs.streams.run.Goals as goal
 
@@ -26,13 +25,18 @@ answered : (o : Option (List ℕ)) (t : List ℕ) (P : List ℕ → Type 0) → 
 answered None t P e p = tt
 answered (Some input) t P e p = subst P (ap program_answer e ∙ same input) p
 
-pub returns : goal.returns
-returns g c =
+pub returns-in-Ok-write_answer-clause-written : goal.returns-in-Ok-write_answer-clause-written
+returns-in-Ok-write_answer-clause-written g c =
     let input = g.R.Read.remaining c.args.reader in
     let old = g.W.Write.contents c.args.writer.now in
     let new = g.W.Write.contents c.write_answer.new.writer in
-    let front = subst (λ t. IfSome input (λ bs. t ≡ take 65537 bs)) (sym c.deref.ensures.value) c.in_ok-text.ensures in
-    record {
-      written = on_ok_weaker c.write_answer.result (λ h. answered input c.deref.result.now (Appends old new) front h) c.write_answer.ensures.written;
-      failed = on_err_weaker c.write_answer.result (λ h. answered input c.deref.result.now (AppendsFront old new) front h) c.write_answer.ensures.failed;
-    }
+    let front = subst (λ t. IfSome input (λ bs. t ≡ take 65537 bs)) (sym c.deref.ensures.value) c.in-Ok.ensures in
+    answered input c.deref.result.now (Appends old new) front c.in-Ok-write_answer.ensures.written
+
+pub returns-clause-failed : goal.returns-clause-failed
+returns-clause-failed g c =
+    let input = g.R.Read.remaining c.args.reader in
+    let old = g.W.Write.contents c.args.writer.now in
+    let new = g.W.Write.contents c.write_answer.new.writer in
+    let front = subst (λ t. IfSome input (λ bs. t ≡ take 65537 bs)) (sym c.deref.ensures.value) c.in-Ok.ensures in
+    answered input c.deref.result.now (AppendsFront old new) front c.in-Err-write_answer.ensures.failed
