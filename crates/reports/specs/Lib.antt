@@ -1,0 +1,9 @@
+pub mod Sentences
+pub mod Faults
+pub mod Marks
+pub mod Spares
+pub mod Shapes
+pub mod Listings
+pub mod Pgm
+pub mod Remarks
+pub mod Checks
