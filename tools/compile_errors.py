@@ -19,8 +19,8 @@ FILE = "src/uses.rt"
 
 # What the program does, the call that is taken out, what stands there then, and the error.
 WRONG = [
-    ("a grant lapses", "tile.give_back(grant, plan, queue)", "Ok(tile)", "linear-value-let-go"),
-    ("a peeling tile shows its picture", "tile.finish(plan, sums)?", "tile", "unknown-method"),
+    ("a grant lapses", "tile.give_back(grant, plan, tables)", "Ok(tile)", "linear-value-let-go"),
+    ("a peeling tile shows its picture", "tile.finish(plan, tables)?", "tile", "unknown-method"),
 ]
 
 

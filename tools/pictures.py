@@ -11,6 +11,8 @@ in column C and row R of the tiles, its bracket file tiles/cCrR.tile and what th
     map.pgm        white: no recorder was lost; light grey: rebuilt from fewer; dark grey, with the ghost's shape in it: too few were left;
                    black: refused, the sums contradict each other
 
+and both, and the picture itself, as PNG too, for people to look at: picture.png, rebuilt.png, map.png.
+
 The exit status is 1 when a tile that was rebuilt differs from the picture, or the program fails.
 """
 
@@ -19,8 +21,10 @@ import os
 import random
 import re
 import shlex
+import struct
 import subprocess
 import sys
+import zlib
 
 ROOT = os.path.dirname(os.path.dirname(os.path.abspath(__file__)))
 BUILT = os.path.join(ROOT, "crates", "rebuild", "out", "rebuild")
@@ -87,6 +91,23 @@ def write_picture(path, picture):
     with open(path, "wb") as file:
         file.write(b"P5\n%d %d\n%d\n" % (picture.width, picture.height, picture.white))
         file.write(b"".join(min(v, picture.white).to_bytes(size, "big") for v in picture.samples))
+
+
+def write_png(path, picture, zoom=2):
+    """A PNG picture, 8 bits of grey, each sample a square of so many pixels."""
+    def chunk(kind, data):
+        return struct.pack(">I", len(data)) + kind + data + struct.pack(">I", zlib.crc32(kind + data))
+
+    lines = []
+    for y in range(picture.height):
+        row = picture.part(0, y, picture.width, 1)
+        greys = [min(v, picture.white) * 255 // picture.white for v in row]
+        line = bytes(grey for grey in greys for _ in range(zoom))
+        lines += [b"\0" + line] * zoom
+    header = struct.pack(">IIBBBBB", picture.width * zoom, picture.height * zoom, 8, 0, 0, 0, 0)
+    with open(path, "wb") as file:
+        file.write(b"\x89PNG\r\n\x1a\n" + chunk(b"IHDR", header))
+        file.write(chunk(b"IDAT", zlib.compress(b"".join(lines), 9)) + chunk(b"IEND", b""))
 
 
 def scene(x, y):
@@ -260,6 +281,8 @@ class Trial:
                 self.tile(name, x, y, min(P, p.width - x), min(Q, p.height - y))
         write_picture(os.path.join(folder, "rebuilt.pgm"), self.rebuilt)
         write_picture(os.path.join(folder, "map.pgm"), self.map)
+        for name, picture in (("picture", self.picture), ("rebuilt", self.rebuilt), ("map", self.map)):
+            write_png(os.path.join(folder, name + ".png"), picture)
         self.report()
         return 1 if self.different else 0
 

@@ -8,7 +8,7 @@ use super::walk::{Pixel, bin_at};
 
 const MOST_PIXELS: usize = 64 * 64;
 
-pub const MOST_BINS: usize = 16 * (2 * 63 * 7 + 1);
+pub const MOST_POSITIONS: usize = 16 * (63 * 13 + 1);
 
 /// Of each missing pixel the sum of 1 and of its cell times 2^13, modulo 2^32.
 #[derive(Clone, Copy, PartialEq)]
@@ -58,7 +58,7 @@ impl Note {
     }
 }
 
-fn note_bins(plan: &Plan, notes: &mut [Note; MOST_BINS]) {
+fn note_bins(plan: &Plan, notes: &mut [Note; MOST_POSITIONS]) {
     let mut tile = [Note { value: 0 }; MOST_PIXELS];
     for (cell, note) in tile.iter_mut().enumerate() {
         *note = Note::of_cell(cell);
@@ -126,7 +126,7 @@ fn peel_alone<K: Kind>(plan: &Plan, tables: &mut Tables<K>) -> State {
     let pixels = plan.pixels();
     tables.picture[..pixels].fill(K::zero());
     tables.marks[..pixels].fill(0);
-    let mut notes = [Note { value: 0 }; MOST_BINS];
+    let mut notes = [Note { value: 0 }; MOST_POSITIONS];
     note_bins(plan, &mut notes);
     let mut state = State {
         head: 0,
